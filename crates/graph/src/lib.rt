@@ -1,0 +1,9 @@
+// Algorithms over a graph in columns that the caller lends: fan-in, longest chains, loops, reach.
+// Internal: its functions ask of the caller (`requires`) what the netlist crate has checked.
+mod chains;
+mod reach;
+
+pub use chains::settle;
+pub use reach::fan_ins;
+pub use reach::looped;
+pub use reach::reached;

@@ -1,0 +1,23 @@
+-- The laws of netlists, from the ground up.
+-- A table that is the tabulation of a rule; words and their leading zeros; columns of rows.
+pub mod Tables
+pub mod Words
+pub mod Rows
+-- The rules of a line as facts; a line's numbers, written and read.
+pub mod Fits
+pub mod Fields
+pub mod Numbers
+-- A step of reading for each way that a line can go; what has been written so far.
+pub mod Stages
+pub mod Written
+-- From a record's text to its lines, and from any text to an account of its lines.
+pub mod Run
+pub mod Account
+-- The rules of the whole: one answer at most, and one at least.
+pub mod Judged
+pub mod Lowest
+pub mod Decide
+-- The theorems of specs/Theorems.
+pub mod theorems
+-- From what a stage answered to what reading and writing say.
+pub mod Answered

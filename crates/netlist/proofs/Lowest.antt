@@ -1,0 +1,77 @@
+-- The rules of the whole, as code asks them: what a test says of one node, and what a search has found.
+--   few                 such a record has at most 512 nodes
+--   laid                a record whose lines are right, in columns
+--   fan-test            the test of rule 5 says whether a node keeps it
+--   joined-yes, unfed, unused    the tests of rule 7
+--   told-yes, told-no   what an answer says
+--   sought-lowest       a search that stops at the first node that breaks the rule
+-- Assumes nothing.
+use Prim.Native.Nat.{ℕ, _≤_, _<_}
+use mathlib.Core.Path.{_≡_, refl, sym, subst}
+use mathlib.Core.Bool.{Bool, true, false}
+use native.Mathlib.Omega.{arith}
+use borrow.Author.Tests.{le-leb, eq-eqb, ne-eqb}
+use lib.Dec.{eqb}
+use lib.ListN.{length}
+use Rattle.frame.specs.Frame.{within}
+use Rattle.theory.specs.Graph.{Graph, Wired}
+use Rattle.graph.specs.Columns.{fan-in, reverse, From, Told, Laid}
+use Rattle.graph.proofs.Laws.{from-input, input-from, to-output, output-from}
+use Rattle.netlist.specs.declared.Netlist.{Netlist}
+use Rattle.netlist.specs.Answer.{Says, node}
+use Rattle.netlist.specs.Net.{graphOf}
+use Rattle.netlist.specs.Rules.{FanIn, ruleOf}
+use Rattle.netlist.specs.Read.{Joined, All, Lowest}
+use Rattle.netlist.specs.Stages.{Sought, found}
+use Rattle.netlist.specs.Theorems.{Fit}
+use Rattle.netlist.proofs.Fits.{clash, within-true, head-fits}
+use Rattle.netlist.proofs.Run.{fit-wired}
+
+pub few : (net : Netlist) → Fit net → net .nodes ≤ 512
+few net f = head-fits (net .period) (net .derate) (net .nodes) (net .edges) (f .head) .2
+
+pub laid : (net : Netlist) → Fit net → 1024 ≤ length (net .from) → 1024 ≤ length (net .to) → Laid (net .nodes) (net .edges) (net .from) (net .to)
+laid net f hf ht =
+    let h = head-fits (net .period) (net .derate) (net .nodes) (net .edges) (f .head) in
+    let w = fit-wired net f in
+    record {
+      nodes-fit = h .2;
+      edges-fit = h .3;
+      from-rows = omega (arith, h .3);
+      to-rows = omega (arith, h .3);
+      from-in = w .src-in;
+      to-in = w .dst-in;
+    }
+
+module _ {P : Type 0} (b : Bool) where
+  pub told-yes : Told b P → b ≡ true → P
+  told-yes t e = subst (λ x. Told x P) e t
+
+  pub told-no : Told b P → b ≡ false → ¬ P
+  told-no t e = subst (λ x. Told x P) e t
+
+-- ── Rule 5 ──────────────────────────────────────────────────────────────────────────────────
+
+pub fan-test : (G : Graph) (v x : ℕ) (b : Bool) → x ≡ fan-in G v → b ≡ within (ruleOf (G .kind v) .fewest) (ruleOf (G .kind v) .most) x → Told b (FanIn G v)
+fan-test G v x true e t = rw e at (within-true (ruleOf (G .kind v) .fewest) (ruleOf (G .kind v) .most) x (sym t))
+fan-test G v x false e t = λ k.
+    let low = le-leb (ruleOf (G .kind v) .fewest) x (rw e (k .0)) in
+    let high = le-leb x (ruleOf (G .kind v) .most) (rw e (k .1)) in
+    clash (cc)
+
+-- ── Rule 7 ──────────────────────────────────────────────────────────────────────────────────
+
+module _ {G : Graph} (w : Wired G) (v fed used : ℕ) (f : Told (eqb fed 1) (From G 0 v)) (u : Told (eqb used 1) (From (reverse G) 1 v)) where
+  pub joined-yes : fed ≡ 1 → used ≡ 1 → Joined G v
+  joined-yes p q = (from-input (told-yes (eqb fed 1) f (eq-eqb fed 1 p)), to-output w (told-yes (eqb used 1) u (eq-eqb used 1 q)))
+
+  pub unfed : ¬ (fed ≡ 1) → ¬ Joined G v
+  unfed n j = told-no (eqb fed 1) f (ne-eqb fed 1 n) (input-from (j .0))
+
+  pub unused : ¬ (used ≡ 1) → ¬ Joined G v
+  unused n j = told-no (eqb used 1) u (ne-eqb used 1 n) (output-from w (j .1))
+
+-- ── A search ────────────────────────────────────────────────────────────────────────────────
+
+pub sought-lowest : {Rule : ℕ → Type 0} {n q v : ℕ} → v < n → All Rule v → ¬ Rule v → Sought Rule n q (node q v)
+sought-lowest {v = v} h a b = found v (record { there = h; breaks = b; before = a }) refl

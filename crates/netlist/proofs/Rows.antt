@@ -1,0 +1,90 @@
+-- Rows of a record and lines of a text, one more at a time.
+--   below-more          what holds of all below n, and of n
+--   column m f n        m rows: f 0, f 1, … n of them, and 0 in the others
+--   column-in, column-past, column-is    its rows; that a column with 0 past its n-th row is one
+--   set-in, set-past    the rows of a column after one more is set
+--   joined-same         the joined lines depend on the lines that are joined
+--   joined-split        a line and what stands before and after it
+-- Assumes nothing.
+use Prim.Native.Nat.{ℕ, zero, suc, _<_, _≤_}
+use native.Mathlib.Omega.{arith}
+use native.Mathlib.Decide.{ℕ-discrete, decLt}
+use mathlib.Core.Path.{_≡_, refl, sym, ap, ap₂, _∙_, subst}
+use mathlib.Core.List.{List, [], _++_, append-assoc, append-nil}
+use lib.ListN.{length, getD, set, replicate, length-set, length-replicate, getD-replicate, List·getD-eq-default}
+use lib.Seq.{getD-set-same, getD-set-other, ext-getD}
+use Rattle.netlist.specs.Net.{zeros}
+use Rattle.netlist.specs.Write.{joined}
+
+pub below-more : (P : ℕ → Type 0) (n : ℕ) → ((i : ℕ) → i < n → P i) → P n → (i : ℕ) → i < suc n → P i
+below-more P n f p i h = go (ℕ-discrete i n)
+  where
+    go : Dec (i ≡ n) → P i
+    go (yes e) = subst P (sym e) p
+    go (no e) = f i (omega arith)
+
+-- ── Columns ─────────────────────────────────────────────────────────────────────────────────
+
+pub length-zeros : (m : ℕ) → length (zeros m) ≡ m
+unfolding zeros
+length-zeros m = length-replicate m 0
+
+pub zeros-at : (m i : ℕ) → getD (zeros m) i 0 ≡ 0
+unfolding zeros
+zeros-at m i = go (decLt i m)
+  where
+    go : Dec (i < m) → getD (zeros m) i 0 ≡ 0
+    go (yes h) = getD-replicate m i 0 0 h
+    go (no h) = List·getD-eq-default (replicate m 0) 0 (omega (arith, length-replicate {A = ℕ} m 0))
+
+set-in : (xs : List ℕ) (n a : ℕ) (f : ℕ → ℕ) → n < length xs → ((i : ℕ) → i < n → getD xs i 0 ≡ f i) → a ≡ f n
+    → (i : ℕ) → i < suc n → getD (set xs n a) i 0 ≡ f i
+set-in xs n a f h k q = below-more (λ i. getD (set xs n a) i 0 ≡ f i) n (λ i l. getD-set-other xs n i a 0 (omega arith) ∙ k i l) (getD-set-same xs n a 0 h ∙ q)
+
+pub set-past : (xs : List ℕ) (n a : ℕ) → ((i : ℕ) → n ≤ i → getD xs i 0 ≡ 0) → (i : ℕ) → suc n ≤ i → getD (set xs n a) i 0 ≡ 0
+set-past xs n a k i l = getD-set-other xs n i a 0 (omega arith) ∙ k i (omega arith)
+
+unfoldable pub column : ℕ → (ℕ → ℕ) → ℕ → List ℕ
+column m f zero = zeros m
+column m f (suc n) = set (column m f n) n (f n)
+
+pub length-column : (m : ℕ) (f : ℕ → ℕ) (n : ℕ) → length (column m f n) ≡ m
+unfolding column
+length-column m f zero = length-zeros m
+length-column m f (suc n) = length-set (column m f n) n (f n) ∙ length-column m f n
+
+pub column-in : (m : ℕ) (f : ℕ → ℕ) (n : ℕ) → n ≤ m → (i : ℕ) → i < n → getD (column m f n) i 0 ≡ f i
+unfolding column
+column-in m f zero h i l = absurd (omega arith)
+column-in m f (suc n) h i l = set-in (column m f n) n (f n) f (omega (arith, length-column m f n)) (column-in m f n (omega arith)) refl i l
+
+pub column-past : (m : ℕ) (f : ℕ → ℕ) (n i : ℕ) → n ≤ i → getD (column m f n) i 0 ≡ 0
+unfolding column
+column-past m f zero i h = zeros-at m i
+column-past m f (suc n) i h = set-past (column m f n) n (f n) (column-past m f n) i h
+
+pub column-is : (m n : ℕ) (xs : List ℕ) → length xs ≡ m → n ≤ m → ((i : ℕ) → n ≤ i → getD xs i 0 ≡ 0) → column m (λ i. getD xs i 0) n ≡ xs
+column-is m n xs q h past = ext-getD 0 (column m f n) xs (length-column m f n ∙ sym q) (λ i l. go i (decLt i n))
+  where
+    f : ℕ → ℕ
+    f i = getD xs i 0
+
+    go : (i : ℕ) → Dec (i < n) → getD (column m f n) i 0 ≡ getD xs i 0
+    go i (yes l) = column-in m f n h i l
+    go i (no l) = column-past m f n i (omega arith) ∙ sym (past i (omega arith))
+
+-- ── Lines ───────────────────────────────────────────────────────────────────────────────────
+
+pub joined-same : (f g : ℕ → List ℕ) (n : ℕ) → ((i : ℕ) → i < n → f i ≡ g i) → joined f n ≡ joined g n
+unfolding joined
+joined-same f g zero h = refl
+joined-same f g (suc n) h = ap₂ _++_ (joined-same f g n (λ i l. h i (omega arith))) (h n (omega arith))
+
+pub joined-split : (f : ℕ → List ℕ) (n v : ℕ) → v < n → (rest : List ℕ) × (joined f n ≡ joined f v ++ (f v ++ rest))
+unfolding joined
+joined-split f zero v h = absurd (omega arith)
+joined-split f (suc n) v h = go (ℕ-discrete v n) (joined-split f n v)
+  where
+    go : Dec (v ≡ n) → (v < n → (rest : List ℕ) × (joined f n ≡ joined f v ++ (f v ++ rest))) → (rest : List ℕ) × (joined f (suc n) ≡ joined f v ++ (f v ++ rest))
+    go (yes e) r = ([], rw e (simp append-nil))
+    go (no e) r = let s = r (omega arith) in (s .0 ++ f n, ap (λ l. l ++ f n) (s .1) ∙ simp append-assoc)

@@ -1,0 +1,131 @@
+-- What is to be proved of reading and writing, beside the calls. Each is a type; proofs/ has a term of it.
+-- Assumes nothing.
+use mathlib.Core.Path.{_≡_}
+use mathlib.Core.Bool.{true, false}
+use mathlib.Core.Logic.{_↔_}
+use mathlib.Core.List.{List, [], _++_}
+use Prim.Native.Nat.{ℕ, suc, _+_, _<_, _≤_}
+use lib.ListN.{length, getD, take, drop}
+use Rattle.frame.specs.Frame.{bad, frameAt, line, numberAt}
+use Rattle.theory.specs.Walk.{Loop}
+use Rattle.theory.specs.Gate.{gate}
+use Rattle.theory.specs.Retimer.{Sound}
+use Rattle.netlist.specs.declared.Netlist.{Netlist}
+use Rattle.netlist.specs.Answer.{Says, value, refused, whole, node, line as at-line}
+use Rattle.netlist.specs.Net.{graphOf, regsOf}
+use Rattle.netlist.specs.Rules.{headFits, nodeFits, edgeFits, FanIn}
+use Rattle.netlist.specs.Read.{fault, lines, linesOf, Joined, All, Lowest, Reads}
+use Rattle.netlist.specs.Write.{headLine, nodeLine, edgeLine, joined, textOf, Writes}
+
+-- ── No answer is free ───────────────────────────────────────────────────────────────────────
+
+-- Every text has an outcome, and one only.
+abbrev pub SomeReading : Type 0
+SomeReading = (t : List ℕ) → (s : Says) × (net : Netlist) × Reads t s net
+
+abbrev pub OneReading : Type 0
+OneReading = (t : List ℕ) (s s′ : Says) (net net′ : Netlist) → Reads t s net → Reads t s′ net′ → (s ≡ s′) × (net ≡ net′)
+
+abbrev pub OneWriting : Type 0
+OneWriting = (net : Netlist) (old : List ℕ) (s s′ : Says) (new new′ : List ℕ) → Writes net old s new → Writes net old s′ new′ → (s ≡ s′) × (new ≡ new′)
+
+-- ── Each number is given exactly when its fact holds and no earlier one does ────────────────
+
+-- The head, the first n nodes and the first m edges keep the rules 2, 3 and 4.
+pub record FitTo (net : Netlist) (n m : ℕ) : Type 0 where
+  pub head : headFits (net .period) (net .derate) (net .nodes) (net .edges) ≡ true
+  pub node : (v : ℕ) → v < n → nodeFits (getD (net .kind) v 0) (getD (net .delay) v 0) ≡ true
+  pub edge : (e : ℕ) → e < m
+      → edgeFits (net .nodes) (graphOf net .kind) (getD (net .from) e 0) (getD (net .to) e 0) (getD (net .count) e 0) (getD (net .start) e 0) ≡ true
+
+abbrev pub Fit : Netlist → Type 0
+Fit net = FitTo net (net .nodes) (net .edges)
+
+-- "record rows past them are … made 0": columns of 512 and 1,024 rows, 0 from the N-th and the E-th on.
+pub record Clean (net : Netlist) : Type 0 where
+  pub kinds : (length (net .kind) ≡ 512) × (length (net .delay) ≡ 512)
+  pub ends : (length (net .from) ≡ 1024) × (length (net .to) ≡ 1024) × (length (net .count) ≡ 1024) × (length (net .start) ≡ 1024)
+  pub node : (v : ℕ) → net .nodes ≤ v → (getD (net .kind) v 0 ≡ 0) × (getD (net .delay) v 0 ≡ 0)
+  pub edge : (e : ℕ) → net .edges ≤ e
+      → (getD (net .from) e 0 ≡ 0) × (getD (net .to) e 0 ≡ 0) × (getD (net .count) e 0 ≡ 0) × (getD (net .start) e 0 ≡ 0)
+
+-- No line has a fault exactly where the text is that of a netlist whose lines keep the rules.
+abbrev pub LinesFact : Type 0
+LinesFact = (t : List ℕ) (net : Netlist) → (linesOf t ≡ lines net) ↔ (Fit net × Clean net × (t ≡ textOf net))
+
+-- The lines before a node's and before an edge's.
+abbrev pub toNode : Netlist → ℕ → List ℕ
+toNode net v = headLine net ++ joined (nodeLine net) v
+
+abbrev pub toEdge : Netlist → ℕ → List ℕ
+toEdge net e = headLine net ++ joined (nodeLine net) (net .nodes) ++ joined (edgeLine net) e
+
+-- The first line that has a fault, and which. What stands before it is lines of a netlist that keep their rules; `rest` begins with the faulty line.
+pub data FaultAt (t : List ℕ) : ℕ → ℕ → Type 0 where
+  head-frame : frameAt 1 7 t ≡ bad → FaultAt t 1 1
+  head-range : (bs rest : List ℕ) → frameAt 1 7 t ≡ line bs rest
+      → headFits (numberAt 0 2 bs) (numberAt 2 1 bs) (numberAt 3 2 bs) (numberAt 5 2 bs) ≡ false → FaultAt t 2 1
+  node-frame : (net : Netlist) (v : ℕ) (rest : List ℕ) → FitTo net v 0 → v < net .nodes → t ≡ toNode net v ++ rest → frameAt 2 2 rest ≡ bad → FaultAt t 1 (v + 2)
+  node-rule : (net : Netlist) (v : ℕ) (rest bs more : List ℕ) → FitTo net v 0 → v < net .nodes → t ≡ toNode net v ++ rest → frameAt 2 2 rest ≡ line bs more
+      → nodeFits (numberAt 0 1 bs) (numberAt 1 1 bs) ≡ false → FaultAt t 3 (v + 2)
+  edge-frame : (net : Netlist) (e : ℕ) (rest : List ℕ) → FitTo net (net .nodes) e → e < net .edges → t ≡ toEdge net e ++ rest → frameAt 3 9 rest ≡ bad
+      → FaultAt t 1 (net .nodes + e + 2)
+  edge-rule : (net : Netlist) (e : ℕ) (rest bs more : List ℕ) → FitTo net (net .nodes) e → e < net .edges → t ≡ toEdge net e ++ rest → frameAt 3 9 rest ≡ line bs more
+      → edgeFits (net .nodes) (graphOf net .kind) (numberAt 0 2 bs) (numberAt 2 2 bs) (numberAt 4 1 bs) (numberAt 5 4 bs) ≡ false → FaultAt t 4 (net .nodes + e + 2)
+  surplus : (net : Netlist) (rest : List ℕ) → FitTo net (net .nodes) (net .edges) → t ≡ textOf net ++ rest → ¬ (rest ≡ []) → FaultAt t 1 (net .nodes + net .edges + 2)
+
+abbrev pub FaultFact : Type 0
+FaultFact = (t : List ℕ) (q n : ℕ) → (linesOf t ≡ fault (at-line q n)) ↔ FaultAt t q n
+
+-- 5, 6, 7 and success, of a text whose lines have no fault.
+pub record WholeFacts (t : List ℕ) (s : Says) (net read : Netlist) (h : linesOf t ≡ lines read) (r : Reads t s net) : Type 0 where
+  pub five : (v : ℕ) → (s ≡ node 5 v) ↔ Lowest (FanIn (graphOf read)) (read .nodes) v
+  pub six : (s ≡ whole 6) ↔ (All (FanIn (graphOf read)) (read .nodes) × Loop (graphOf read) (regsOf read .count))
+  pub seven : (v : ℕ) → (s ≡ node 7 v)
+      ↔ (All (FanIn (graphOf read)) (read .nodes) × (¬ Loop (graphOf read) (regsOf read .count)) × Lowest (Joined (graphOf read)) (read .nodes) v)
+  pub none : (s ≡ value 0)
+      ↔ (All (FanIn (graphOf read)) (read .nodes) × (¬ Loop (graphOf read) (regsOf read .count)) × All (Joined (graphOf read)) (read .nodes))
+
+abbrev pub RefusalFacts : Type 0
+RefusalFacts = (t : List ℕ) (s : Says) (net read : Netlist) (h : linesOf t ≡ lines read) (r : Reads t s net) → WholeFacts t s net read h r
+
+-- "A netlist is its head, its N nodes and its E edges."
+pub record Same (net net′ : Netlist) : Type 0 where
+  pub head : (net .period ≡ net′ .period) × (net .derate ≡ net′ .derate) × (net .nodes ≡ net′ .nodes) × (net .edges ≡ net′ .edges)
+  pub node : (v : ℕ) → v < net .nodes → (getD (net .kind) v 0 ≡ getD (net′ .kind) v 0) × (getD (net .delay) v 0 ≡ getD (net′ .delay) v 0)
+  pub edge : (e : ℕ) → e < net .edges
+      → (getD (net .from) e 0 ≡ getD (net′ .from) e 0) × (getD (net .to) e 0 ≡ getD (net′ .to) e 0)
+      × (getD (net .count) e 0 ≡ getD (net′ .count) e 0) × (getD (net .start) e 0 ≡ getD (net′ .start) e 0)
+
+-- What a record of the types in src/lib.rt can hold.
+pub record Typed (net : Netlist) : Type 0 where
+  pub head : (net .period < 65536) × (net .derate < 256) × (net .nodes < 65536) × (net .edges < 65536)
+  pub node : (v : ℕ) → (getD (net .kind) v 0 < 256) × (getD (net .delay) v 0 < 256)
+  pub edge : (e : ℕ) → (getD (net .from) e 0 < 65536) × (getD (net .to) e 0 < 65536) × (getD (net .count) e 0 < 256) × (getD (net .start) e 0 < 4294967296)
+
+-- "check 2 to 7 as if its lines were read": a record's lines are never refused 1, and are refused nothing exactly where they keep the rules.
+abbrev pub RecordFact : Type 0
+RecordFact = (net : Netlist) → Typed net
+    → ((n : ℕ) → ¬ (linesOf (textOf net) ≡ fault (at-line 1 n)))
+    × (((back : Netlist) × (linesOf (textOf net) ≡ lines back)) ↔ Fit net)
+    × ((back : Netlist) → linesOf (textOf net) ≡ lines back → Same net back × Clean back)
+
+-- What reads is a sound circuit, so the theory speaks of it.
+abbrev pub ReadIsSound : Type 0
+ReadIsSound = (t : List ℕ) (net : Netlist) → Reads t (value 0) net → Sound gate (graphOf net) (regsOf net)
+
+-- ── Demand 2 ────────────────────────────────────────────────────────────────────────────────
+
+-- "Text read and written again is the same text."
+abbrev pub RoundTripText : Type 0
+RoundTripText = (t : List ℕ) (net : Netlist) (old : List ℕ) (s : Says) (new : List ℕ) → Reads t (value 0) net → length t ≤ length old
+    → Writes net old s new → (s ≡ value (length t)) × (new ≡ t ++ drop (length t) old)
+
+-- "a sound netlist written and read again is the same netlist": it is sound where writing does not refuse it.
+abbrev pub RoundTripNetlist : Type 0
+RoundTripNetlist = (net : Netlist) (old new : List ℕ) (n : ℕ) → Typed net → Writes net old (value n) new
+    → (back : Netlist) × Reads (take n new) (value 0) back × Same net back × (Clean net → back ≡ net)
+
+-- "record rows past them are read by nothing".
+abbrev pub RecordRowsUnread : Type 0
+RecordRowsUnread = (net net′ : Netlist) → Same net net′ → (old : List ℕ) (s : Says) (new : List ℕ) → Writes net old s new → Writes net′ old s new

@@ -1,0 +1,2 @@
+-- The laws of what is printed.
+pub mod Printed

@@ -1,0 +1,3 @@
+-- What the programs print of a call's answer.
+pub mod Shown
+pub mod Places

@@ -1,0 +1,76 @@
+// What the programs print of a call's answer.
+ghost use mathlib.Core.Path.{_≡_};
+ghost use lib.ListN.{length};
+ghost use Rattle.frame.specs.Decoded.{placed};
+ghost use Rattle.io.specs.Counts.{Counts};
+ghost use Rattle.netlist.specs.Answer.{says};
+ghost use Rattle.netlist.specs.declared.Answer.the-variants.{Refused};
+ghost use Rattle.show.specs.Shown.{refusalLine, lineIn, Rewrites, Rereads};
+ghost use Rattle.show.specs.Places.{placeKind, placeNumber};
+use netlist::Answer;
+use netlist::Place;
+
+// "place kind (1: 00 whole, 01 line, 02 node, 03 edge)"
+fn place_kind(p: Place) -> u8
+    ensures { λ r. ⌜ r ≡ placeKind p ⌝ }
+{
+    match p {
+        Place::Whole => 0,
+        Place::Line(_) => 1,
+        Place::Node(_) => 2,
+        Place::Edge(_) => 3,
+    }
+}
+
+// "place (2, 0 for whole)"
+fn place_number(p: Place) -> u16
+    ensures { λ r. ⌜ r ≡ placeNumber p ⌝ }
+{
+    match p {
+        Place::Whole => 0,
+        Place::Line(n) => n,
+        Place::Node(v) => v,
+        Place::Edge(e) => e,
+    }
+}
+
+// The line of a refusal at the front of `out`, where there is room for it; how many bytes that took.
+pub fn put_refusal(q: u8, p: Place, out: &mut [u8]) -> usize
+    ensures { λ r. ⌜ now (out .exit) ≡ placed (now (out .entry)) 0 (refusalLine (says (Refused q p))) ⌝ }
+    ensures { λ r. ⌜ r ≡ lineIn (refusalLine (says (Refused q p))) (now (out .entry)) ⌝ }
+{
+    let place = place_number(p);
+    let mut bytes = [0u8; 16];
+    bytes[0] = 15;
+    bytes[1] = q;
+    bytes[2] = place_kind(p);
+    bytes[3] = (place / 256 % 256) as u8;
+    bytes[4] = (place % 256) as u8;
+    frame::put_line(out, 0, bytes, 5);
+    if out.len() < 11 { 0 } else { 11 }
+}
+
+// A text read and written again.
+fn rewrite(text: &[u8], out: &mut [u8]) -> Answer
+    ensures { λ r. ⌜ Rewrites (now (text .entry)) (now (out .entry)) (says r) (now (out .exit)) ⌝ }
+{
+    let reading = netlist::read(text);
+    let a = reading.answer;
+    let Answer::Done(_) = a else {
+        return a;
+    };
+    let net = reading.net;
+    netlist::write(net, out)
+}
+
+// A text read and written again, or the line of its refusal, at the front of `out`; how many bytes that took.
+pub fn reread(text: &[u8], out: &mut [u8]) -> usize
+    ensures { λ r. ⌜ Rereads (now (text .entry)) (now (out .entry)) r (now (out .exit)) ⌝ }
+    ensures { λ r. ⌜ Counts r (now (out .exit)) ⌝ }
+{
+    let a = rewrite(text, out);
+    match a {
+        Answer::Done(n) => n,
+        Answer::Refused(q, p) => put_refusal(q, p, out),
+    }
+}
