@@ -2,6 +2,8 @@
 --   laid-wired          the columns' graph is wired
 --   small-asked         the engine takes delays of 0 and 1 and labels 0
 --   same-at             each number of a column that repeats one
+--   times-low           delays 1, labels 0, the period the number of nodes, and no loop without a register: no time is above that number
+--   times-rise          then the times rise along each edge without a register
 --   loop-told           delays 1, labels 0, the period the number of nodes: some time is above it where there is a loop without a register
 --   mark-low            a mark is 0 or 1
 --   from-told           delays 1 at pins and 0 elsewhere, no registers, the period 0: the time is 1 where a pin reaches the node
@@ -66,14 +68,37 @@ module _ {G : Graph} (w : Wired G) (count delay lab : ℕ → ℕ) (d : Even G d
   chain-nodes (more e h p) = omega (arith, chain-nodes p, d (G .dst e) (w .dst-in e h))
 
   -- A time above the number of nodes is reached by a chain of so many nodes: one of them comes twice.
-  -- Otherwise the times rise along each edge without a register: the chain that reaches its start goes on to its end.
+  high-loop : (time : List ℕ) → Arrival G count delay (G .nodes) lab (at time) → (v : ℕ) → v < G .nodes → G .nodes < at time v → Loop G count
+  high-loop time a v h l =
+      let r = a .reached v h in
+      long-loop w count (r .walk) (chain-bare (r .walk) (r .chain)) (omega (arith, r .enough, chain-nodes (r .walk)))
+
+  pub times-low : (time : List ℕ) → Arrival G count delay (G .nodes) lab (at time) → ¬ Loop G count → (v : ℕ) → v < G .nodes → at time v ≤ G .nodes
+  times-low time a n v h = go (decLt (G .nodes) (at time v))
+    where
+      go : Dec (G .nodes < at time v) → at time v ≤ G .nodes
+      go (yes l) = absurd (n (high-loop time a v h l))
+      go (no l) = omega arith
+
+  -- The chain that reaches an edge's start goes on to its end.
+  pub times-rise : (time : List ℕ) → Arrival G count delay (G .nodes) lab (at time) → ((v : ℕ) → v < G .nodes → at time v ≤ G .nodes)
+      → (e : ℕ) → e < G .edges → count e ≡ 0 → at time (G .src e) < at time (G .dst e)
+  unfolding Chain delays
+  times-rise time a low e h q =
+      let r = a .reached (G .src e) (w .src-in e h) in
+      let empty : Empty G count lab e = omega (arith, q, z (G .src e) (w .src-in e h), z (G .dst e) (w .dst-in e h)) in
+      omega (
+        arith,
+        r .enough,
+        low (G .dst e) (w .dst-in e h),
+        d (G .dst e) (w .dst-in e h),
+        a .within (r .from) (G .dst e) (more e h (r .walk)) (empty, r .chain),
+      )
+
   pub loop-told : (time : List ℕ) → Arrival G count delay (G .nodes) lab (at time)
       → (b : Bool) → Told b (Above time (G .nodes) (G .nodes)) → Told b (Loop G count)
-  unfolding Chain delays
-  loop-told time a true t =
-      let r = a .reached (t .node) (t .within) in
-      long-loop w count (r .walk) (chain-bare (r .walk) (r .chain)) (omega (arith, t .above, r .enough, chain-nodes (r .walk)))
-  loop-told time a false t = rank-no-loop (at time) up
+  loop-told time a true t = high-loop time a (t .node) (t .within) (t .above)
+  loop-told time a false t = rank-no-loop (at time) (times-rise time a low)
     where
       low : (v : ℕ) → v < G .nodes → at time v ≤ G .nodes
       low v h = go (decLt (G .nodes) (at time v))
@@ -81,18 +106,6 @@ module _ {G : Graph} (w : Wired G) (count delay lab : ℕ → ℕ) (d : Even G d
           go : Dec (G .nodes < at time v) → at time v ≤ G .nodes
           go (yes l) = absurd (t (record { node = v; within = h; above = l }))
           go (no l) = omega arith
-
-      up : (e : ℕ) → e < G .edges → count e ≡ 0 → at time (G .src e) < at time (G .dst e)
-      up e h q =
-          let r = a .reached (G .src e) (w .src-in e h) in
-          let empty : Empty G count lab e = omega (arith, q, z (G .src e) (w .src-in e h), z (G .dst e) (w .dst-in e h)) in
-          omega (
-            arith,
-            r .enough,
-            low (G .dst e) (w .dst-in e h),
-            d (G .dst e) (w .dst-in e h),
-            a .within (r .from) (G .dst e) (more e h (r .walk)) (empty, r .chain),
-          )
 
 -- ── Reach ───────────────────────────────────────────────────────────────────────────────────
 

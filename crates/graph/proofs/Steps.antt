@@ -3,7 +3,8 @@
 --   Done                the edge asks for nothing more
 --   State               what holds in a sweep before edge e
 --   state-start         at the first edge
---   state-reads         the edge's numbers can be read
+--   times-read         the edge's numbers can be read
+--   relax-eases         any edge, whatever came before
 --   state-turn          one edge further, by what `relax` does
 --   state-end           after the last edge
 --   start-times         the times to start from
@@ -22,7 +23,7 @@ use Rattle.theory.proofs.labels.Arrival.{Reached, Arrival, Passed, reached-own,
 use Rattle.theory.proofs.numbers.Sums.{sum-less}
 use Rattle.graph.specs.Columns.{at, graph}
 use Rattle.graph.specs.Chains.{Asked}
-use Rattle.graph.specs.Sweeps.{raised, Readable, Relaxed, rises, stays, slack, Times, Swept}
+use Rattle.graph.specs.Sweeps.{raised, Readable, Relaxed, rises, stays, slack, Times, Eased, Swept}
 
 pub relaxed-few : {from to count delay lab : List ℕ} {P : ℕ} {time : List ℕ} {e : ℕ} {after : List ℕ} {c : ℕ}
     → Relaxed from to count delay lab P time e after c → c ≤ 1
@@ -53,19 +54,19 @@ module _ (nodes edges : ℕ) (from to count delay lab : List ℕ) (P : ℕ) wher
 
   module _ (f : Asked nodes edges from to count delay lab P) where
     -- No time is above the period and one: it is reached.
-    pub state-reads : (before time : List ℕ) (r e : ℕ) → e < edges → State before time r e → Readable from to count delay lab P time e
-    state-reads before time r e h s = record {
+    pub times-read : (time : List ℕ) (e : ℕ) → e < edges → Times nodes edges from to count delay lab P time → Readable from to count delay lab P time e
+    times-read time e h s = record {
       in-from = omega (arith, f .laid .from-rows);
       in-to = omega (arith, f .laid .to-rows);
       in-count = omega (arith, f .count-rows);
       start-lab = omega (arith, start-in, f .lab-rows);
       end-lab = omega (arith, end-in, f .lab-rows);
       end-delay = omega (arith, end-in, f .delay-rows);
-      start-time = omega (arith, start-in, s .times .rows);
-      end-time = omega (arith, end-in, s .times .rows);
+      start-time = omega (arith, start-in, s .rows);
+      end-time = omega (arith, end-in, s .rows);
       lab-small = f .lab-small (at to e) end-in;
       delay-small = f .delay-small (at to e) end-in;
-      time-low = omega (arith, s .times .reached from (at from e) start-in .enough);
+      time-low = omega (arith, s .reached from (at from e) start-in .enough);
       period-small = f .period-small;
     }
       where
@@ -91,58 +92,76 @@ module _ (nodes edges : ℕ) (from to count delay lab : List ℕ) (P : ℕ) wher
         last z k l (no q) = s .done z k (omega arith)
 
     -- The edge raises its end, to a time that the chain to its start and the edge reach; so the slack falls.
+    module _ (time : List ℕ) (e : ℕ) (h : e < edges) (q : at lab (at from e) ≡ at count e + at lab (at to e)) (l : at time (at to e) < raised from to delay P time e)
+        (s : Times nodes edges from to count delay lab P time) where
+      v : ℕ
+      v = at to e
+
+      t : ℕ
+      t = raised from to delay P time e
+
+      in-nodes : v < nodes
+      unfolding v
+      in-nodes = f .laid .to-in e h
+
+      same : at (set time v t) v ≡ t
+      same = getD-set-same time v t 0 (let y : v < length time = omega (arith, in-nodes, s .rows) in y)
+
+      other : (x : ℕ) → x ≢ v → at (set time v t) x ≡ at time x
+      other x z = getD-set-other time v x t 0 z
+
+      up : (x : ℕ) → Dec (x ≡ v) → at time x ≤ at (set time v t) x
+      unfolding v t
+      up x (yes z) = subst (λ y. at time y ≤ at (set time v t) y) (sym z) (omega (arith, same, l))
+      up x (no z) = omega (arith, other x z)
+
+      raise-falls : slack nodes P (set time v t) < slack nodes P time
+      unfolding v t
+      raise-falls =
+          sum-less (λ x. suc P - at (set time v t) x) (λ x. suc P - at time x) nodes v
+          (λ x k. omega (arith, up x (ℕ-discrete x v)))
+          in-nodes
+          (omega (arith, same, l))
+
+      reached : (kind : List ℕ) (x : ℕ) → x < nodes → Dec (x ≡ v) → Reached (graph nodes edges kind from to) (at count) (at delay) P (at lab) x (at (set time v t) x)
+      unfolding v t
+      reached kind x k (yes z) =
+          subst (λ y. Reached (graph nodes edges kind from to) (at count) (at delay) P (at lab) y (at (set time v t) y)) (sym z)
+          (subst (λ n. Reached (graph nodes edges kind from to) (at count) (at delay) P (at lab) v n) (sym same)
+          (reached-edge (at count) (at delay) P (at lab) e (at time (at from e)) h q (s .reached kind (at from e) (f .laid .from-in e h))))
+      reached kind x k (no z) =
+          subst (λ n. Reached (graph nodes edges kind from to) (at count) (at delay) P (at lab) x n) (sym (other x z)) (s .reached kind x k)
+
+      raise-times : Times nodes edges from to count delay lab P (set time v t)
+      raise-times = record {
+        rows = omega (arith, length-set time v t, s .rows);
+        own = λ x k. omega (arith, up x (ℕ-discrete x v), s .own x k);
+        reached = λ kind x k. reached kind x k (ℕ-discrete x v);
+      }
+
     state-raise : (before time : List ℕ) (r e : ℕ) → e < edges → at lab (at from e) ≡ at count e + at lab (at to e)
         → at time (at to e) < raised from to delay P time e
         → State before time r e → State before (set time (at to e) (raised from to delay P time e)) (r + 1) (e + 1)
+    unfolding v t
     state-raise before time r e h q l s = record {
       low = omega arith;
       few = omega (arith, s .few);
-      size = length-set time v t ∙ s .size;
-      risen = omega (arith, falls, s .risen);
-      times = record {
-        rows = omega (arith, length-set time v t, s .times .rows);
-        own = λ x k. own x k (ℕ-discrete x v);
-        reached = λ kind x k. reached kind x k (ℕ-discrete x v);
-      };
+      size = length-set time (at to e) (raised from to delay P time e) ∙ s .size;
+      risen = omega (arith, raise-falls time e h q l (s .times), s .risen);
+      times = raise-times time e h q l (s .times);
       done = λ z k p. absurd (let y : ⊥ = omega arith in y);
     }
-      where
-        v : ℕ
-        v = at to e
 
-        t : ℕ
-        t = raised from to delay P time e
-
-        in-nodes : v < nodes
-        in-nodes = f .laid .to-in e h
-
-        same : at (set time v t) v ≡ t
-        same = getD-set-same time v t 0 (let y : v < length time = omega (arith, in-nodes, s .times .rows) in y)
-
-        other : (x : ℕ) → x ≢ v → at (set time v t) x ≡ at time x
-        other x z = getD-set-other time v x t 0 z
-
-        up : (x : ℕ) → Dec (x ≡ v) → at time x ≤ at (set time v t) x
-        up x (yes z) = subst (λ y. at time y ≤ at (set time v t) y) (sym z) (omega (arith, same, l))
-        up x (no z) = omega (arith, other x z)
-
-        falls : slack nodes P (set time v t) < slack nodes P time
-        falls =
-            sum-less (λ x. suc P - at (set time v t) x) (λ x. suc P - at time x) nodes v
-            (λ x k. omega (arith, up x (ℕ-discrete x v)))
-            in-nodes
-            (omega (arith, same, l))
-
-        own : (x : ℕ) → x < nodes → Dec (x ≡ v) → min (suc P) (at delay x) ≤ at (set time v t) x
-        own x k d = omega (arith, up x d, s .times .own x k)
-
-        reached : (kind : List ℕ) (x : ℕ) → x < nodes → Dec (x ≡ v) → Reached (graph nodes edges kind from to) (at count) (at delay) P (at lab) x (at (set time v t) x)
-        reached kind x k (yes z) =
-            subst (λ y. Reached (graph nodes edges kind from to) (at count) (at delay) P (at lab) y (at (set time v t) y)) (sym z)
-            (subst (λ n. Reached (graph nodes edges kind from to) (at count) (at delay) P (at lab) v n) (sym same)
-            (reached-edge (at count) (at delay) P (at lab) e (at time (at from e)) h q (s .times .reached kind (at from e) (f .laid .from-in e h))))
-        reached kind x k (no z) =
-            subst (λ n. Reached (graph nodes edges kind from to) (at count) (at delay) P (at lab) x n) (sym (other x z)) (s .times .reached kind x k)
+    -- Whichever edge it is, the times stay such times, and rise.
+    pub relax-eases : (before time after : List ℕ) (c e : ℕ) → e < edges → Eased nodes edges from to count delay lab P before time
+        → Relaxed from to count delay lab P time e after c → Eased nodes edges from to count delay lab P before after
+    unfolding v t
+    relax-eases before time after c e h s (rises q l pt pc) = rw pt (record {
+      times = raise-times time e h q l (s .times);
+      risen = omega (arith, raise-falls time e h q l (s .times), s .risen);
+      size = length-set time (at to e) (raised from to delay P time e) ∙ s .size;
+    })
+    relax-eases before time after c e h s (stays d pt pc) = rw pt s
 
     pub state-turn : (before time after : List ℕ) (r c e : ℕ) → e < edges → State before time r e
         → Relaxed from to count delay lab P time e after c → State before after (r + c) (e + 1)

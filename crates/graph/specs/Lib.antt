@@ -4,3 +4,5 @@ pub mod Chains
 -- What the engine's inner functions promise each other.
 pub mod Sweeps
 pub mod Marks
+-- Items by key, and the evaluation order.
+pub mod Sort

@@ -4,6 +4,7 @@
 --   Relaxed             what `relax` does: it raises the end's time, or the edge asks for nothing more
 --   slack               how far the times can still rise: the reason why sweeps end
 --   Times               times that are high enough for each node alone, and reached by chains
+--   Eased               what a sweep does in whatever order
 --   Swept               what `sweep` does
 -- Assumes nothing.
 use mathlib.Core.Path.{_≡_}
@@ -48,6 +49,12 @@ pub record Times (nodes edges : ℕ) (from to count delay lab : List ℕ) (perio
   pub rows : nodes ≤ length time
   pub own : (v : ℕ) → v < nodes → min (suc period) (at delay v) ≤ at time v
   pub reached : (kind : List ℕ) (v : ℕ) → v < nodes → Reached (graph nodes edges kind from to) (at count) (at delay) period (at lab) v (at time v)
+
+-- What any sweep does, in whatever order: such times, and no lower.
+pub record Eased (nodes edges : ℕ) (from to count delay lab : List ℕ) (period : ℕ) (before after : List ℕ) : Type 0 where
+  pub times : Times nodes edges from to count delay lab period after
+  pub risen : slack nodes period after ≤ slack nodes period before
+  pub size : length after ≡ length before
 
 pub record Swept (nodes edges : ℕ) (from to count delay lab : List ℕ) (period : ℕ) (before after : List ℕ) (r : ℕ) : Type 0 where
   pub times : Times nodes edges from to count delay lab period after

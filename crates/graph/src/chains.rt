@@ -4,7 +4,7 @@ ghost use Prim.Native.Nat.{ℕ, suc, _+_, _≤_, _<_, min};
 ghost use lib.ListN.{length};
 ghost use Rattle.graph.specs.Columns.{at};
 ghost use Rattle.graph.specs.Chains.{Asked, Arrivals};
-ghost use Rattle.graph.specs.Sweeps.{Readable, Relaxed, Times, Swept};
+ghost use Rattle.graph.specs.Sweeps.{Readable, Relaxed, Times, Eased, Swept};
 
 // A time and a delay, where all above the period is the period and one.
 fn later(t: u32, d: u32, period: u32) -> u32
@@ -79,6 +79,29 @@ fn sweep<'a>(
     raised
 }
 
+// One sweep from the last edge to the first. It saves sweeps where edges stand in the order of a way back; what it leaves out, `sweep` finds.
+fn sweep_back<'a>(
+    from: &'a [u16],
+    to: &'a [u16],
+    count: &'a [u8],
+    nodes: usize,
+    edges: usize,
+    delay: &[u32],
+    lab: &[u32],
+    period: u32,
+    time: &mut [u32],
+)
+    requires { ⌜ Asked nodes edges (now from) (now to) (now count) (now delay) (now lab) period ⌝ }
+    requires { ⌜ Times nodes edges (now from) (now to) (now count) (now delay) (now lab) period (now time) ⌝ }
+    ensures { λ _. ⌜ Eased nodes edges (now (from .entry)) (now (to .entry)) (now (count .entry)) (now (delay .entry)) (now (lab .entry)) period (now (time .entry)) (now (time .exit)) ⌝ }
+{
+    let mut e = edges;
+    while 0 < e {
+        e -= 1;
+        relax(from, to, count, e, delay, lab, period, time);
+    }
+}
+
 // The arrival times of all nodes, into `time`, whatever it held.
 pub fn settle<'a>(
     from: &'a [u16],
@@ -98,6 +121,7 @@ pub fn settle<'a>(
     start_times(delay, nodes, period, time);
     let mut raised: u32 = 1;
     while raised != 0 {
+        sweep_back(from, to, count, nodes, edges, delay, lab, period, time);
         raised = sweep(from, to, count, nodes, edges, delay, lab, period, time);
     }
 }

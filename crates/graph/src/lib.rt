@@ -1,9 +1,12 @@
-// Algorithms over a graph in columns that the caller lends: fan-in, longest chains, loops, reach.
+// Algorithms over a graph in columns that the caller lends: fan-in, longest chains, loops, reach, evaluation order.
 // Internal: its functions ask of the caller (`requires`) what the netlist crate has checked.
 mod chains;
 mod reach;
+mod sort;
 
 pub use chains::settle;
 pub use reach::fan_ins;
 pub use reach::looped;
 pub use reach::reached;
+pub use sort::by_rank;
+pub use sort::sort_by;

@@ -20,7 +20,7 @@ use Rattle.frame.proofs.Laws.{frame-rest}
 use Rattle.netlist.specs.declared.Netlist.{Netlist}
 use Rattle.netlist.specs.Answer.{line as at-line}
 use Rattle.netlist.specs.Net.{withHead, withNode, withEdge, graphOf}
-use Rattle.netlist.specs.Rules.{nodeFits, edgeFits}
+use Rattle.rules.specs.Rules.{nodeFits, edgeFits}
 use Rattle.netlist.specs.Read.{Lines, fault, lines, ends, linesOf, nodesFrom, edgesFrom}
 use Rattle.netlist.specs.Write.{nodeLine, edgeLine, joined, textOf}
 use Rattle.netlist.specs.Theorems.{FitTo, Fit, Clean, toNode, toEdge, FaultAt, head-frame, head-range, node-frame, node-rule, edge-frame, edge-rule, surplus}

@@ -21,8 +21,7 @@ use Rattle.netlist.specs.declared.Answer.{Answer}
 use Rattle.netlist.specs.declared.Answer.the-variants.{Done, Refused}
 use Rattle.netlist.specs.Answer.{Says, value, says, whole, andThen, needs, holds}
 use Rattle.netlist.specs.Net.{emptyNet, graphOf, regsOf}
-use Rattle.netlist.specs.Rules.{FanIn}
-use Rattle.netlist.specs.Read.{lines, linesOf, Joined, All, Judged, five, seven, sound, kept, Reads, faulty}
+use Rattle.netlist.specs.Read.{FanIn, lines, linesOf, Joined, All, Judged, five, seven, sound, kept, Reads, faulty}
 use Rattle.netlist.specs.Write.{textOf, Writes}
 use Rattle.netlist.specs.Stages.{Lined, Sought, none, found}
 use Rattle.netlist.specs.Theorems.{Fit}

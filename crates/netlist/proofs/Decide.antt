@@ -24,8 +24,8 @@ use Rattle.graph.proofs.Laws.{from-input, input-from, to-output, output-from}
 use Rattle.netlist.specs.declared.Netlist.{Netlist}
 use Rattle.netlist.specs.Answer.{Says, value, whole, node}
 use Rattle.netlist.specs.Net.{graphOf, regsOf}
-use Rattle.netlist.specs.Rules.{ruleOf, FanIn}
-use Rattle.netlist.specs.Read.{Joined, All, Lowest, Judged, five, six, seven, sound}
+use Rattle.rules.specs.Rules.{ruleOf}
+use Rattle.netlist.specs.Read.{FanIn, Joined, All, Lowest, Judged, five, six, seven, sound}
 use Rattle.netlist.proofs.Rows.{column, column-in}
 
 -- ── Decisions ───────────────────────────────────────────────────────────────────────────────

@@ -15,7 +15,7 @@ use borrow.Author.Tests.{ltb-true, leb-true}
 use Rattle.frame.specs.Frame.{within}
 use Rattle.netlist.specs.declared.Netlist.{Netlist}
 use Rattle.netlist.specs.Net.{graphOf}
-use Rattle.netlist.specs.Rules.{ruleOf, headFits, nodeFits, edgeFits}
+use Rattle.rules.specs.Rules.{ruleOf, headFits, nodeFits, edgeFits}
 
 pub clash : {A : Type 0} → _≡_ {A = ℕ} 0 1 → A
 clash z = absurd (omega arith)

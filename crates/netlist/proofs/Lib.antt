@@ -1,7 +1,5 @@
 -- The laws of netlists, from the ground up.
--- A table that is the tabulation of a rule; words and their leading zeros; columns of rows.
-pub mod Tables
-pub mod Words
+-- Columns of rows.
 pub mod Rows
 -- The rules of a line as facts; a line's numbers, written and read.
 pub mod Fits

@@ -20,8 +20,8 @@ use Rattle.graph.proofs.Laws.{from-input, input-from, to-output, output-from}
 use Rattle.netlist.specs.declared.Netlist.{Netlist}
 use Rattle.netlist.specs.Answer.{Says, node}
 use Rattle.netlist.specs.Net.{graphOf}
-use Rattle.netlist.specs.Rules.{FanIn, ruleOf}
-use Rattle.netlist.specs.Read.{Joined, All, Lowest}
+use Rattle.rules.specs.Rules.{ruleOf}
+use Rattle.netlist.specs.Read.{FanIn, Joined, All, Lowest}
 use Rattle.netlist.specs.Stages.{Sought, found}
 use Rattle.netlist.specs.Theorems.{Fit}
 use Rattle.netlist.proofs.Fits.{clash, within-true, head-fits}

@@ -18,7 +18,7 @@ use Rattle.frame.specs.Frame.{lineOf}
 use Rattle.theory.specs.Graph.{Wired}
 use Rattle.netlist.specs.declared.Netlist.{Netlist}
 use Rattle.netlist.specs.Net.{withHead, withNode, withEdge, graphOf}
-use Rattle.netlist.specs.Rules.{headFits, nodeFits, edgeFits}
+use Rattle.rules.specs.Rules.{headFits, nodeFits, edgeFits}
 use Rattle.netlist.specs.Read.{linesOf, nodesFrom, edgesFrom}
 use Rattle.netlist.specs.Write.{nodeLine, edgeLine, joined}
 use Rattle.netlist.specs.Theorems.{FitTo, Fit, toNode, toEdge}

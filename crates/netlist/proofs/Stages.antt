@@ -25,7 +25,7 @@ use Rattle.netlist.specs.declared.Place.the-variants.{Line}
 use Rattle.netlist.specs.Answer.{line as at-line}
 use Rattle.netlist.specs.Stages.{Goes}
 use Rattle.netlist.specs.Net.{emptyNet, withHead, withNode, withEdge, graphOf}
-use Rattle.netlist.specs.Rules.{headFits, nodeFits, edgeFits}
+use Rattle.rules.specs.Rules.{headFits, nodeFits, edgeFits}
 use Rattle.netlist.specs.Read.{Lines, fault, lines, ends, edgesFrom, nodesFrom, linesOf}
 use Rattle.netlist.proofs.Numbers.{number-one, number-two, number-four, front}
 

@@ -1,6 +1,6 @@
 -- Reading: the rules 1 to 4 line by line, then 5, 6 and 7 of the whole.
 --   linesOf             the record that the lines fill, or the first fault of a line
---   Joined              a node keeps rule 7
+--   FanIn, Joined       a node keeps rule 5, rule 7
 --   All, Lowest         all nodes keep a rule; the lowest that does not
 --   Judged net s        s is what rules 5, 6 and 7 say of a netlist whose lines are right
 --   Reads t s net       reading the text t says s and gives net
@@ -8,14 +8,15 @@
 use mathlib.Core.Path.{_≡_}
 use mathlib.Core.Bool.{cond}
 use mathlib.Core.List.{List, [], _∷_}
-use Prim.Native.Nat.{ℕ, zero, suc, _<_}
+use Prim.Native.Nat.{ℕ, zero, suc, _<_, _≤_}
 use Rattle.frame.specs.Frame.{onLine, frameAt, numberAt}
 use Rattle.theory.specs.Graph.{Graph}
 use Rattle.theory.specs.Walk.{Loop, FromInput, ToOutput}
 use Rattle.netlist.specs.declared.Netlist.{Netlist}
 use Rattle.netlist.specs.Answer.{Says, value, refused, whole, line, node}
 use Rattle.netlist.specs.Net.{emptyNet, withHead, withNode, withEdge, graphOf, regsOf}
-use Rattle.netlist.specs.Rules.{headFits, nodeFits, edgeFits, FanIn}
+use Rattle.rules.specs.Rules.{ruleOf, headFits, nodeFits, edgeFits}
+use Rattle.graph.specs.Columns.{fan-in}
 
 -- ── The lines in turn ───────────────────────────────────────────────────────────────────────
 
@@ -57,6 +58,10 @@ linesOf t =
     (fault (line 2 1))
 
 -- ── The whole ───────────────────────────────────────────────────────────────────────────────
+
+-- Else 5: "wrong number of in-edges".
+abbrev pub FanIn : Graph → ℕ → Type 0
+FanIn G v = (ruleOf (G .kind v) .fewest ≤ fan-in G v) × (fan-in G v ≤ ruleOf (G .kind v) .most)
 
 -- Else 7: "a node that no input reaches, or that reaches no output; a pin reaches itself" (by the walk of one node).
 abbrev pub Joined : Graph → ℕ → Type 0

@@ -13,8 +13,8 @@ use Rattle.theory.specs.Retimer.{Sound}
 use Rattle.netlist.specs.declared.Netlist.{Netlist}
 use Rattle.netlist.specs.Answer.{Says, value, refused, whole, node, line as at-line}
 use Rattle.netlist.specs.Net.{graphOf, regsOf}
-use Rattle.netlist.specs.Rules.{headFits, nodeFits, edgeFits, FanIn}
-use Rattle.netlist.specs.Read.{fault, lines, linesOf, Joined, All, Lowest, Reads}
+use Rattle.rules.specs.Rules.{headFits, nodeFits, edgeFits}
+use Rattle.netlist.specs.Read.{FanIn, fault, lines, linesOf, Joined, All, Lowest, Reads}
 use Rattle.netlist.specs.Write.{headLine, nodeLine, edgeLine, joined, textOf, Writes}
 
 -- ── No answer is free ───────────────────────────────────────────────────────────────────────

@@ -2,14 +2,13 @@
 ghost use mathlib.Core.Path.{_≡_};
 ghost use Rattle.netlist.specs.Answer.{says, whole};
 ghost use Rattle.netlist.specs.Net.{graphOf};
-ghost use Rattle.netlist.specs.Read.{Joined, Judged};
-ghost use Rattle.netlist.specs.Rules.{FanIn};
+ghost use Rattle.netlist.specs.Read.{Joined, Judged, FanIn};
 ghost use Rattle.netlist.specs.Stages.{Sought};
 ghost use Rattle.netlist.specs.Theorems.{Fit};
 use crate::Answer;
 use crate::Netlist;
 use crate::Place;
-use crate::rules::fan_fits;
+use rules::fan_fits;
 
 // Rule 5: the lowest node with a wrong number of in-edges.
 fn fan_fault(net: Netlist) -> Answer

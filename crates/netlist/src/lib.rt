@@ -2,7 +2,6 @@
 
 mod judging;
 mod lines;
-mod rules;
 mod writing;
 
 pub use lines::read;

@@ -11,9 +11,9 @@ use crate::Netlist;
 use crate::Place;
 use crate::Reading;
 use crate::judging::judge;
-use crate::rules::edge_fits;
-use crate::rules::head_fits;
-use crate::rules::node_fits;
+use rules::edge_fits;
+use rules::head_fits;
+use rules::node_fits;
 
 // What lines have filled: the record and the cursor past them; or a refusal, and an empty record.
 pub struct Filled {

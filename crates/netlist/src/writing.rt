@@ -8,7 +8,7 @@ ghost use lib.Seq.{sets};
 ghost use Rattle.frame.specs.Frame.{bytesOf};
 ghost use Rattle.netlist.specs.Answer.{says};
 ghost use Rattle.netlist.specs.Read.{Reads};
-ghost use Rattle.netlist.specs.Rules.{headFits};
+ghost use Rattle.rules.specs.Rules.{headFits};
 ghost use Rattle.netlist.specs.Write.{nodeLine, edgeLine, joined, textOf, Writes};
 use crate::Answer;
 use crate::Netlist;
@@ -16,8 +16,8 @@ use crate::Place;
 use crate::Reading;
 use crate::lines::read;
 use crate::lines::with_head;
-use crate::rules::head_fits;
 use frame::put_line;
+use rules::head_fits;
 
 // The bytes of the head line.
 fn head_bytes(period: u16, derate: u8, nodes: u16, edges: u16) -> [u8; 16]

@@ -8,8 +8,7 @@ use Rattle.theory.specs.Walk.{Loop}
 use Rattle.netlist.specs.declared.Netlist.{Netlist}
 use Rattle.netlist.specs.Answer.{Says, value, whole, node}
 use Rattle.netlist.specs.Net.{graphOf, regsOf}
-use Rattle.netlist.specs.Rules.{FanIn}
-use Rattle.netlist.specs.Read.{Joined, All, Lowest, Judged, five, six, seven, sound}
+use Rattle.netlist.specs.Read.{FanIn, Joined, All, Lowest, Judged, five, six, seven, sound}
 use Rattle.netlist.specs.Theorems.{RefusalFacts}
 use Rattle.netlist.proofs.Fits.{clash}
 use Rattle.netlist.proofs.Judged.{one-judged, reads-judged}

@@ -30,14 +30,18 @@ loop-holds c =
       settled = λ z. absurd (let y : ⊥ = omega arith in y);
     }
 
+sweep-back-requires : tie.Need-sweep-back-requires Inv-loop μ-loop
+sweep-back-requires c κs = search needs
+
 sweep-requires : tie.Need-sweep-requires Inv-loop μ-loop
-sweep-requires c κs = search needs
+sweep-requires c κs = (c .before .before .before .before .before .before .before .before .before .before .before .before .before .before .before .before .before .pre .0, c .before .before .before .sweep-back .ensures .times)
 
 loop-less : tie.Need-loop-less Inv-loop μ-loop
-loop-less c = search needs
+loop-less c = omega (arith, c .before .before .sweep .ensures .risen, c .before .before .before .before .before .before .sweep-back .ensures .risen)
 
 loop-again : tie.Need-loop-again Inv-loop μ-loop
-loop-again c = search needs
+loop-again c =
+    record { size = omega (arith, c .before .before .sweep .kept, c .before .before .before .before .before .before .sweep-back .kept, c .before .before .before .before .before .before .before .before .before .loop .inv .size); times = c .before .before .sweep .ensures .times; settled = c .before .before .sweep .ensures .settled }
 
 same-length : tie.Need-same-length Inv-loop μ-loop
 same-length c = search needs
@@ -53,6 +57,7 @@ settle-spec =
     μ-loop
     start-times-requires
     loop-holds
+    sweep-back-requires
     sweep-requires
     loop-less
     loop-again

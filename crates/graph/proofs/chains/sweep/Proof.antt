@@ -2,7 +2,7 @@
 -- Assumes nothing.
 use Prim.Native.Nat.{_-_}
 use native.Mathlib.Omega.{arith}
-use Rattle.graph.proofs.Steps.{State, state-start, state-reads, state-turn, state-end, relaxed-few}
+use Rattle.graph.proofs.Steps.{State, state-start, times-read, state-turn, state-end, relaxed-few}
 use denote.Ref.{now}
 use borrow.Author.Needs.{needs}
 use Rattle.graph.proofs.chains.sweep.Statement.{statement}
@@ -21,8 +21,8 @@ relax-requires : tie.Need-relax-requires Inv-loop μ-loop
 relax-requires c κs =
     let s = c .before .before .before .before .before .before .before .before .before in
     let l = c .before .before .loop in
-    state-reads (s .args .nodes) (s .args .edges) (now (s .args .from)) (now (s .args .to)) (now (s .args .count)) (now (s .args .delay)) (now (s .args .lab)) (s .args .period)
-    (s .pre .0) (now (s .args .time)) (l .time) (l .raised) (l .e) (c .before .loop-test .taken) (l .inv)
+    times-read (s .args .nodes) (s .args .edges) (now (s .args .from)) (now (s .args .to)) (now (s .args .count)) (now (s .args .delay)) (now (s .args .lab)) (s .args .period)
+    (s .pre .0) (l .time) (l .e) (c .before .loop-test .taken) (l .inv .times)
 
 add-raised : tie.Need-add-raised Inv-loop μ-loop
 add-raised c = let l = c .before .before .before .before .before .loop .inv in omega (arith, relaxed-few (c .before .before .relax .ensures), l .few, l .low, c .before .before .before .before .before .before .before .before .before .before .before .before .pre .0 .laid .edges-fit)

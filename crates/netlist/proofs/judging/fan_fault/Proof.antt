@@ -8,8 +8,7 @@ use borrow.Author.Needs.{needs}
 use borrow.Author.Tests.{not-true, not-false}
 use Rattle.graph.specs.Columns.{Told}
 use Rattle.netlist.specs.Net.{graphOf}
-use Rattle.netlist.specs.Rules.{FanIn}
-use Rattle.netlist.specs.Read.{All}
+use Rattle.netlist.specs.Read.{FanIn, All}
 use Rattle.netlist.specs.Stages.{none}
 use Rattle.netlist.proofs.Fits.{node-fits}
 use Rattle.netlist.proofs.Lowest.{few, laid, fan-test, told-yes, told-no, sought-lowest}
@@ -44,7 +43,7 @@ array-read-fan-fits : tie.Need-array-read-fan-fits Inv-loop μ-loop
 array-read-fan-fits c = omega (arith, few (c .before .before .before .before .before .before .before .before .before .args .t1) (c .before .before .before .before .before .before .before .before .before .pre))
 
 fan-fits-requires : tie.Need-fan-fits-requires Inv-loop μ-loop
-fan-fits-requires c κs = let k = node-fits _ _ (c .before .before .before .before .before .before .before .before .before .pre .node (c .before .before .loop .v) (c .before .loop-test .taken)) in omega arith
+fan-fits-requires c κs = search needs
 
 cast-t22 : tie.Need-cast-t22 Inv-loop μ-loop
 cast-t22 c = search needs

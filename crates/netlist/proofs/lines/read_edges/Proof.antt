@@ -11,7 +11,7 @@ use borrow.Author.Needs.{needs}
 use borrow.Author.Tests.{not-true, not-false}
 use Rattle.netlist.specs.declared.Netlist.{Netlist}
 use Rattle.netlist.specs.Net.{graphOf}
-use Rattle.netlist.specs.Rules.{edgeFits}
+use Rattle.rules.specs.Rules.{edgeFits}
 use Rattle.netlist.specs.Read.{edgesFrom}
 use Rattle.netlist.proofs.Stages.{Opened, opened, closed, edge-none, edge-wrong, edge-good, goes-fault, empty-sizes}
 use Rattle.netlist.proofs.lines.read_edges.Statement.{statement}

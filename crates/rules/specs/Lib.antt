@@ -1,0 +1,2 @@
+-- The rules of one line.
+pub mod Rules
