@@ -1,4 +1,11 @@
--- What is to be proved of reading and writing, beside the calls. Each is a type; proofs/ has a term of it.
+-- The theorems of reading and writing, beside the calls' own contracts. Each is a type; proofs/theorems has a term of it.
+--   SomeReading, OneReading, OneWriting    every text has exactly one outcome, and a record one writing at most
+--   LinesFact, FaultFact, FaultPlace       when the lines are right, and which line is refused with which number
+--   RefusalFacts                           when 5, 6, 7 and nothing is given
+--   RecordFact                             a record's lines: never refused 1, and right exactly when it keeps the rules
+--   ReadIsSound                            what reads is a sound circuit
+--   RoundTripText, RoundTripNetlist        demand 2
+--   RecordRowsUnread                       rows past the netlist's are read by nothing
 -- Assumes nothing.
 use mathlib.Core.Path.{_≡_}
 use mathlib.Core.Bool.{true, false}
@@ -76,6 +83,10 @@ pub data FaultAt (t : List ℕ) : ℕ → ℕ → Type 0 where
 
 abbrev pub FaultFact : Type 0
 FaultFact = (t : List ℕ) (q n : ℕ) → (linesOf t ≡ fault (at-line q n)) ↔ FaultAt t q n
+
+-- A fault of the lines is always at a line.
+abbrev pub FaultPlace : Type 0
+FaultPlace = (t : List ℕ) (s : Says) → linesOf t ≡ fault s → (q : ℕ) × (n : ℕ) × (s ≡ at-line q n) × FaultAt t q n
 
 -- 5, 6, 7 and success, of a text whose lines have no fault.
 pub record WholeFacts (t : List ℕ) (s : Says) (net read : Netlist) (h : linesOf t ≡ lines read) (r : Reads t s net) : Type 0 where

@@ -2,7 +2,7 @@
 --   text-lines          the text of a netlist that fits gives its rows back
 --   cut-clean           and these are all of it, where its other rows are 0
 --   fault-lines         a text with a fault is refused so
---   lines-fact, fault-fact
+--   lines-fact, fault-fact, fault-place
 -- Assumes nothing.
 use Prim.Native.Nat.{ℕ, suc, _+_, _-_, _<_}
 use native.Mathlib.Omega.{arith}
@@ -10,10 +10,10 @@ use mathlib.Core.Path.{_≡_, refl, sym, ap, _∙_, subst, subst₂}
 use mathlib.Core.List.{List, [], _∷_, _++_, append-nil}
 use Rattle.frame.specs.Frame.{numberAt}
 use Rattle.netlist.specs.declared.Netlist.{Netlist}
-use Rattle.netlist.specs.Answer.{line as at-line}
+use Rattle.netlist.specs.Answer.{Says, line as at-line}
 use Rattle.netlist.specs.Read.{Lines, fault, lines, ends, linesOf, nodesFrom, edgesFrom}
 use Rattle.netlist.specs.Write.{textOf}
-use Rattle.netlist.specs.Theorems.{FitTo, Fit, Clean, toNode, toEdge, FaultAt, head-frame, head-range, node-frame, node-rule, edge-frame, edge-rule, surplus, LinesFact, FaultFact}
+use Rattle.netlist.specs.Theorems.{FitTo, Fit, Clean, toNode, toEdge, FaultAt, head-frame, head-range, node-frame, node-rule, edge-frame, edge-rule, surplus, LinesFact, FaultFact, FaultPlace}
 use Rattle.netlist.proofs.Fits.{clash}
 use Rattle.netlist.proofs.Rows.{column-is}
 use Rattle.netlist.proofs.Run.{cut, run-nodes, run-edges, fit-rows, cut-fits}
@@ -90,3 +90,10 @@ fault-lines (surplus net rest f q p) = ap linesOf q ∙ run-edges net (net .edge
 -- The same: the lines before the fault are read one by one, then comes the fault; and back by the account.
 pub fault-fact : FaultFact
 fault-fact t q n = (account-wrong (account t), fault-lines)
+
+account-place : {t : List ℕ} {x : Lines} {s : Says} → Account t x → x ≡ fault s → (q : ℕ) × (n : ℕ) × (s ≡ at-line q n) × FaultAt t q n
+account-place (right n f c p) e = clash (cc)
+account-place (wrong q n f) e = (q, n, cc, f)
+
+pub fault-place : FaultPlace
+fault-place t s e = account-place (account t) e
