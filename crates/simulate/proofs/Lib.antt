@@ -1,0 +1,23 @@
+-- The laws of clocks, from the ground up.
+-- Words that move on; what is gathered and joined; the gates, as the paper says them.
+pub mod Words
+pub mod Lists
+pub mod GateLaws
+-- One clock by equations; what is said of steps and runs that are not refused.
+pub mod Clock
+pub mod Says
+-- The plan: a word built bit by bit; the nodes of an order that are no inputs; the edges sorted by the node that they enter; the plan, from its parts.
+pub mod Spelt
+pub mod Kept
+pub mod Seen
+pub mod Plans
+-- The tests of rule 13, a turn at a time.
+pub mod Asked
+-- The loops of one clock, a turn at a time.
+pub mod Signals
+-- One clock of the code is one clock of the paper; clocks in a row.
+pub mod Evaluated
+pub mod Ran
+-- From what a call found to what it says.
+pub mod Answered
+pub mod theorems

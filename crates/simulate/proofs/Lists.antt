@@ -1,0 +1,149 @@
+-- Lists that are gathered or joined, and lists of bits.
+--   gather-hit, gather-miss    one more, of the kind or not
+--   gather-like         what is gathered depends on what is looked at
+--   gather-length       how many are gathered does not depend on what is gathered of each
+--   before-hit, before-miss    how many of a kind stand before the next node
+--   before-le           no more than all nodes before it
+--   before-less         a node of the kind has a place among all of that kind
+--   joined-first        joined lists, the first apart
+--   rows-length, rows-at, rows-past    n rows of one number each, and what stands past them
+--   bits-at, bits-take, bits-drop    a member of a list of bits is 0 or 1; its parts are lists of bits
+--   bits-append, bits-gather    so are two in a row, and gathered bits
+-- Assumes nothing.
+use Prim.Native.Nat.{ℕ, zero, suc, _+_, _-_, _<_, _≤_}
+use native.Mathlib.Omega.{arith}
+use native.Mathlib.Decide.{ℕ-discrete}
+use mathlib.Core.Path.{_≡_, refl, sym, ap, ap₂, _∙_}
+use mathlib.Core.Bool.{true}
+use mathlib.Core.List.{List, [], _∷_, _++_, append-assoc, append-nil}
+use lib.Dec.{leb}
+use lib.ListN.{length, getD, take, drop, length-append, List·getD-append}
+use lib.Seq.{getD-at, drop-append-add, drop-drop}
+use borrow.Author.Tests.{leb-true, le-leb, eq-eqb, ne-eqb}
+use Rattle.theory.specs.Clock.{only, gather}
+use Rattle.netlist.specs.declared.Netlist.{Netlist}
+use Rattle.netlist.specs.Net.{graphOf}
+use Rattle.netlist.specs.Write.{joined}
+use Rattle.netlist.proofs.Rows.{joined-split}
+use Rattle.netlist.proofs.Fits.{both}
+use Rattle.simulate.specs.Clock.{before}
+use Rattle.simulate.specs.Step.{bits}
+
+-- ── Gathered ────────────────────────────────────────────────────────────────────────────────
+
+module _ (kind f : ℕ → ℕ) (k n : ℕ) where
+  pub gather-hit : kind n ≡ k → gather kind f k (suc n) ≡ gather kind f k n ++ (f n ∷ [])
+  unfolding gather only
+  gather-hit q = rw (eq-eqb (kind n) k q)
+
+  pub gather-miss : ¬ (kind n ≡ k) → gather kind f k (suc n) ≡ gather kind f k n
+  unfolding gather only
+  gather-miss q = rw (ne-eqb (kind n) k q) (append-nil (gather kind f k n))
+
+-- By cases at the last one, from which both sides have one more or none.
+pub gather-like : (kind kind′ f g : ℕ → ℕ) (k n : ℕ) → ((i : ℕ) → i < n → kind i ≡ kind′ i) → ((i : ℕ) → i < n → kind i ≡ k → f i ≡ g i)
+    → gather kind f k n ≡ gather kind′ g k n
+unfolding gather
+gather-like kind kind′ f g k zero a b = refl
+gather-like kind kind′ f g k (suc n) a b = go (ℕ-discrete (kind n) k) (gather-like kind kind′ f g k n (λ i h. a i (omega arith)) (λ i h. b i (omega arith)))
+  where
+    go : Dec (kind n ≡ k) → gather kind f k n ≡ gather kind′ g k n → gather kind f k (suc n) ≡ gather kind′ g k (suc n)
+    go (yes q) e = gather-hit kind f k n q ∙ ap₂ (λ l x. l ++ (x ∷ [])) e (b n (omega arith) q) ∙ sym (gather-hit kind′ g k n (sym (a n (omega arith)) ∙ q))
+    go (no q) e = gather-miss kind f k n q ∙ e ∙ sym (gather-miss kind′ g k n (λ p. q (a n (omega arith) ∙ p)))
+
+pub gather-length : (kind f g : ℕ → ℕ) (k n : ℕ) → length (gather kind f k n) ≡ length (gather kind g k n)
+unfolding gather
+gather-length kind f g k zero = refl
+gather-length kind f g k (suc n) = go (ℕ-discrete (kind n) k) (gather-length kind f g k n)
+  where
+    go : Dec (kind n ≡ k) → length (gather kind f k n) ≡ length (gather kind g k n) → length (gather kind f k (suc n)) ≡ length (gather kind g k (suc n))
+    go (yes q) e = rw (gather-hit kind f k n q, gather-hit kind g k n q) (simp length-append (omega arith))
+    go (no q) e = rw (gather-miss kind f k n q, gather-miss kind g k n q) e
+
+module _ (net : Netlist) (k : ℕ) where
+  pub before-hit : (v : ℕ) → graphOf net .kind v ≡ k → before net k (suc v) ≡ suc (before net k v)
+  unfolding before
+  before-hit v q = ap length (gather-hit (graphOf net .kind) (λ u. u) k v q) ∙ simp length-append (omega arith)
+
+  pub before-miss : (v : ℕ) → ¬ (graphOf net .kind v ≡ k) → before net k (suc v) ≡ before net k v
+  unfolding before
+  before-miss v q = ap length (gather-miss (graphOf net .kind) (λ u. u) k v q)
+
+  pub before-le : (v : ℕ) → before net k v ≤ v
+  unfolding before gather
+  before-le zero = omega arith
+  before-le (suc v) = go (ℕ-discrete (graphOf net .kind v) k) (before-le v)
+    where
+      go : Dec (graphOf net .kind v ≡ k) → before net k v ≤ v → before net k (suc v) ≤ suc v
+      go (yes q) l = omega (arith, before-hit v q)
+      go (no q) l = omega (arith, before-miss v q)
+
+  pub before-less : (v n : ℕ) → graphOf net .kind v ≡ k → v < n → before net k v < before net k n
+  before-less v zero q h = absurd (omega arith)
+  before-less v (suc n) q h = go (ℕ-discrete v n) (ℕ-discrete (graphOf net .kind n) k) (before-less v n q)
+    where
+      go : Dec (v ≡ n) → Dec (graphOf net .kind n ≡ k) → (v < n → before net k v < before net k n) → before net k v < before net k (suc n)
+      go (yes e) d less = omega (arith, before-hit v q, ap (λ i. before net k (suc i)) e)
+      go (no e) (yes p) less = omega (arith, before-hit n p, less (omega arith))
+      go (no e) (no p) less = omega (arith, before-miss n p, less (omega arith))
+
+-- ── Joined ──────────────────────────────────────────────────────────────────────────────────
+
+pub joined-first : (f : ℕ → List ℕ) (n : ℕ) → joined f (suc n) ≡ f 0 ++ joined (λ i. f (suc i)) n
+unfolding joined
+joined-first f zero = sym (append-nil (f 0))
+joined-first f (suc n) = ap (λ l. l ++ f (suc n)) (joined-first f n) ∙ append-assoc (f 0) (joined (λ i. f (suc i)) n) (f (suc n))
+
+module _ (f : ℕ → ℕ) where
+  pub rows-length : (n : ℕ) → length (joined (λ i. f i ∷ []) n) ≡ n
+  unfolding joined
+  rows-length zero = refl
+  rows-length (suc n) = length-append (joined (λ i. f i ∷ []) n) (f n ∷ []) ∙ omega (arith, rows-length n)
+
+  pub rows-at : (n i : ℕ) (past : List ℕ) → i < n → getD (joined (λ i. f i ∷ []) n ++ past) i 0 ≡ f i
+  rows-at n i past h =
+      let s = joined-split (λ i. f i ∷ []) n i h in
+      List·getD-append (joined (λ i. f i ∷ []) n) past 0 i (omega (arith, rows-length n))
+      ∙ ap (λ l. getD l i 0) (s .1) ∙ getD-at (joined (λ i. f i ∷ []) i) (f i) (s .0) 0 i (rows-length i)
+
+  -- The first n are rows, and the others are those of the list.
+  pub rows-past : (n m : ℕ) (past : List ℕ) → n ≤ m → drop m (joined (λ i. f i ∷ []) n ++ drop n past) ≡ drop m past
+  rows-past n m past h =
+      let xs = joined (λ i. f i ∷ []) n in
+      let e : m ≡ length xs + (m - n) = omega (arith, rows-length n) in
+      let f : n + (m - n) ≡ m = omega arith in
+      ap (λ i. drop i (xs ++ drop n past)) e ∙ drop-append-add xs (drop n past) (m - n) ∙ drop-drop (m - n) n past ∙ ap (λ i. drop i past) f
+
+-- ── Bits ────────────────────────────────────────────────────────────────────────────────────
+
+pub bits-at : (l : List ℕ) (i : ℕ) → bits l ≡ true → getD l i 0 ≤ 1
+unfolding bits
+bits-at [] i h = omega arith
+bits-at (b ∷ l) zero h = leb-true b 1 (both (leb b 1) (bits l) h .0)
+bits-at (b ∷ l) (suc i) h = bits-at l i (both (leb b 1) (bits l) h .1)
+
+pub bits-take : (n : ℕ) (l : List ℕ) → bits l ≡ true → bits (take n l) ≡ true
+unfolding bits
+bits-take zero l h = refl
+bits-take (suc n) [] h = refl
+bits-take (suc n) (b ∷ l) h = let p = both (leb b 1) (bits l) h in rw (p .0) (bits-take n l (p .1))
+
+pub bits-drop : (n : ℕ) (l : List ℕ) → bits l ≡ true → bits (drop n l) ≡ true
+unfolding bits
+bits-drop zero l h = h
+bits-drop (suc n) [] h = refl
+bits-drop (suc n) (b ∷ l) h = bits-drop n l (both (leb b 1) (bits l) h .1)
+
+pub bits-append : (l m : List ℕ) → bits l ≡ true → bits m ≡ true → bits (l ++ m) ≡ true
+unfolding bits
+bits-append [] m h k = k
+bits-append (b ∷ l) m h k = let p = both (leb b 1) (bits l) h in rw (p .0) (bits-append l m (p .1) k)
+
+pub bits-gather : (kind f : ℕ → ℕ) (k n : ℕ) → ((i : ℕ) → i < n → kind i ≡ k → f i ≤ 1) → bits (gather kind f k n) ≡ true
+unfolding bits gather
+bits-gather kind f k zero h = refl
+bits-gather kind f k (suc n) h = go (ℕ-discrete (kind n) k) (bits-gather kind f k n (λ i l. h i (omega arith)))
+  where
+    go : Dec (kind n ≡ k) → bits (gather kind f k n) ≡ true → bits (gather kind f k (suc n)) ≡ true
+    go (yes q) e = rw (gather-hit kind f k n q) (bits-append (gather kind f k n) (f n ∷ []) e (rw (le-leb (f n) 1 (h n (omega arith) q))))
+    go (no q) e = rw (gather-miss kind f k n q) e

@@ -1,0 +1,71 @@
+-- What each node sees, where the edges are sorted by the node that they enter.
+--   ins-edge            each place of the sorted edges holds an edge
+--   first-rises         where a node's part begins, the part before has ended
+--   first-low           and no part begins past the edges
+--   seen-count          a node's part is as long as its fan-in
+--   seen-signals        the signals of a node's part, in the order of the edges
+-- Assumes nothing.
+use Prim.Native.Nat.{ℕ, zero, suc, _+_, _≤_, _<_}
+use native.Mathlib.Omega.{arith}
+use mathlib.Core.Path.{_≡_, refl, sym, ap, ap₂, _∙_}
+use mathlib.Core.Bool.{Bool, true, false}
+use mathlib.Core.List.{List, _∷_, _++_, map, map-append}
+use lib.ListN.{length, take, drop, length-append}
+use lib.Dec.{eqb}
+use lib.Seq.{drop-cons}
+use Rattle.theory.specs.Clock.{gather, only}
+use Rattle.graph.specs.Columns.{at, fan-in}
+use Rattle.graph.specs.Sort.{group, sorted, Sorts}
+use Rattle.graph.proofs.Sorted.{sorted-place, sorted-grows, sorted-part, sorted-room, sorted-length, sets-at}
+use Rattle.netlist.specs.declared.Netlist.{Netlist}
+use Rattle.netlist.specs.Net.{graphOf}
+use Rattle.netlist.specs.Theorems.{Fit}
+use Rattle.netlist.proofs.Run.{fit-wired}
+use Rattle.simulate.specs.Parts.{seen}
+
+gather-map : (dst f : ℕ → ℕ) (v n : ℕ) → map f (gather dst (λ e. e) v n) ≡ gather dst f v n
+unfolding gather only
+gather-map dst f v zero = refl
+gather-map dst f v (suc n) = rw map-append (ap₂ _++_ (gather-map dst f v n) (last (eqb (dst n) v)))
+  where
+    last : (b : Bool) → map f (only b (λ e. e) n) ≡ only b f n
+    last true = refl
+    last false = refl
+
+part-map : (f : ℕ → ℕ) (xs ys : List ℕ) (n b : ℕ) → b + n ≤ length xs → b + n ≤ length ys → ((k : ℕ) → k < b + n → at ys k ≡ f (at xs k))
+    → take n (drop b ys) ≡ map f (take n (drop b xs))
+part-map f xs ys zero b h l w = refl
+part-map f xs ys (suc n) b h l w =
+    rw (drop-cons xs b 0 (omega arith), drop-cons ys b 0 (omega arith))
+    (ap₂ _∷_ (w b (omega arith)) (part-map f xs ys n (suc b) (omega arith) (omega arith) (λ k m. w k (omega arith))))
+
+module _ (net : Netlist) (f : Fit net) {old ins first : List ℕ} (room : net .edges ≤ length old) (s : Sorts (net .to) (net .edges) (net .nodes) old ins first) where
+  all-edges : length (sorted (net .to) (net .edges) (net .nodes)) ≡ net .edges
+  all-edges = sorted-length (net .to) (net .edges) (net .nodes) (fit-wired net f .dst-in)
+
+  ins-at : (k : ℕ) → k < net .edges → at ins k ≡ at (sorted (net .to) (net .edges) (net .nodes)) k
+  ins-at k h = ap (λ xs. at xs k) (s .placed) ∙ sets-at (sorted (net .to) (net .edges) (net .nodes)) old k (omega (arith, all-edges)) (omega (arith, all-edges))
+
+  pub ins-edge : (k : ℕ) → k < net .edges → at ins k < net .edges
+  ins-edge k h = rw (ins-at k h) (sorted-place (net .to) (net .edges) (net .nodes) k (omega (arith, all-edges)) .item)
+
+  pub first-rises : (v : ℕ) → v < net .nodes → at first v ≤ at first (suc v)
+  first-rises v h = omega (arith, s .begins v (omega arith), s .begins (suc v) h, sorted-grows (net .to) (net .edges) v (suc v) (omega arith))
+
+  pub first-low : (v : ℕ) → v ≤ net .nodes → at first v ≤ net .edges
+  first-low v h = omega (arith, s .begins v h, sorted-room (net .to) (net .edges) v)
+
+  pub seen-count : (v : ℕ) → v < net .nodes → seen first v ≡ fan-in (graphOf net) v
+  unfolding sorted
+  seen-count v h =
+      omega (arith, s .begins v (omega arith), s .begins (suc v) h, length-append (sorted (net .to) (net .edges) v) (group (net .to) v (net .edges)))
+
+  pub seen-signals : (f : ℕ → ℕ) (sees : List ℕ) → net .edges ≤ length sees → ((k : ℕ) → k < net .edges → at sees k ≡ f (at ins k))
+      → (v : ℕ) → v < net .nodes → take (seen first v) (drop (at first v) sees) ≡ gather (at (net .to)) f v (net .edges)
+  seen-signals f sees rows w v h =
+      let low : at first v + seen first v ≤ net .edges = omega (arith, first-rises v h, first-low (suc v) h) in
+      let all = sorted (net .to) (net .edges) (net .nodes) in
+      part-map f all sees (seen first v) (at first v) (omega (arith, all-edges)) (omega arith) (λ k l. w k (omega arith) ∙ ap f (ins-at k (omega arith)))
+      ∙ ap₂ (λ n b. map f (take n (drop b all))) (seen-count v h) (s .begins v (omega arith))
+      ∙ ap (map f) (sorted-part (net .to) (net .edges) v (net .nodes) h)
+      ∙ gather-map (at (net .to)) f v (net .edges)

@@ -1,0 +1,230 @@
+-- The loops of one clock, a turn at a time.
+--   bits-set            a bit put among bits
+--   ones-more, word-more    one bit more at the low end of a word
+--   seen-none, seen-more    of no signal; the first signal apart
+--   evaluated-more, evaluated-length, evaluated-bits    one node more; as many signals; bits
+--   shown-start, shown-more    of no edge; one edge more
+--   among-hit, among-miss, among-less    nodes of a kind, one node more
+--   Entering, entering-start, entering-hit, entering-miss    of no node; one node more, an input or not
+--   Putting, putting-start, putting-length, putting-hit, putting-miss    so for the outputs
+--   moved-start, moved-length, moved-at, moved-more    of no word; as many words; those still to be moved; one word more
+-- Assumes nothing.
+use Prim.Native.Nat.{ℕ, zero, suc, _+_, _-_, _*_, _^_, _%_, _<_, _≤_}
+use native.Mathlib.Omega.{arith}
+use native.Mathlib.Nat.{pow-suc, div-one}
+use native.Mathlib.Numerals.{add-one}
+use native.Mathlib.Decide.{ℕ-discrete, decLt}
+use mathlib.Core.Path.{_≡_, refl, sym, ap, ap₂, _∙_, subst}
+use mathlib.Core.List.{List, [], _∷_, _++_, map, append-assoc}
+use lib.Count.{ones, ones-cat}
+use lib.ListN.{length, take, drop, set, length-set, length-append, length-drop}
+use lib.Seq.{getD-set-same, getD-set-other, set-out, drop-cons, set-at, getD-drop, getD-append-add, sets, length-sets}
+use Rattle.frame.proofs.Laws.{sets-sets}
+use Rattle.theory.specs.Clock.{gather}
+use Rattle.theory.specs.Gate.{ones as total}
+use Rattle.graph.specs.Columns.{at}
+use Rattle.netlist.specs.Net.{bit}
+use Rattle.netlist.specs.Write.{joined}
+use Rattle.simulate.specs.Clock.{moved-on}
+use Rattle.simulate.specs.Signals.{Bits, seen, signalOf, evaluated, Shown, among, Entered, moved, movedOn}
+use Rattle.simulate.proofs.Lists.{gather-hit, gather-miss, gather-length, rows-length}
+
+pub bits-set : (sig : List ℕ) (i x : ℕ) → x ≤ 1 → Bits sig → Bits (set sig i x)
+bits-set sig i x h b k = go (ℕ-discrete k i) (decLt i (length sig))
+  where
+    go : Dec (k ≡ i) → Dec (i < length sig) → at (set sig i x) k ≤ 1
+    go (no z) d = omega (arith, getD-set-other sig i k x 0 z, b k)
+    go (yes z) (yes l) = subst (λ n. at (set sig i x) n ≤ 1) (sym z) (omega (arith, getD-set-same sig i x 0 l))
+    go (yes z) (no l) = omega (arith, ap (λ s. at s k) (set-out sig i x (omega arith)), b k)
+
+-- ── Gathering ───────────────────────────────────────────────────────────────────────────────
+
+ones-bit : (x : ℕ) → x ≤ 1 → ones x ≡ x
+unfolding ones lib.Count.onesIn
+ones-bit zero h = refl
+ones-bit (suc zero) h = refl
+ones-bit (suc (suc n)) h = absurd (omega arith)
+
+pub ones-more : (word x : ℕ) → x ≤ 1 → ones (word * 2 + x) ≡ ones word + x
+ones-more word x h = ones-cat 1 word x (omega arith) ∙ ap (λ n. ones word + n) (ones-bit x h)
+
+pub word-more : (word x n : ℕ) → word < 2 ^ n → x ≤ 1 → word * 2 + x < 2 ^ suc n
+word-more word x n h l = rw pow-suc (omega arith)
+
+module _ (sees : List ℕ) (b : ℕ) (sig : List ℕ) where
+  pub seen-none : seen sees b b sig ≡ 0
+  unfolding seen
+  seen-none = ap (λ n. total (map (at sig) (take n (drop b sees)))) (let z : b - b ≡ 0 = omega arith in z)
+
+  pub seen-more : (a : ℕ) → a < b → b ≤ length sees → seen sees a b sig ≡ at sig (at sees a) + seen sees (a + 1) b sig
+  unfolding seen
+  seen-more a h l =
+      ap₂ (λ n xs. total (map (at sig) (take n xs))) (let z : b - a ≡ suc (b - (a + 1)) = omega arith in z)
+      (drop-cons sees a 0 (omega arith) ∙ ap (λ n. at sees a ∷ drop n sees) (sym (add-one a)))
+
+-- ── Evaluating ──────────────────────────────────────────────────────────────────────────────
+
+module _ (node first sees truth : List ℕ) (sig : List ℕ) where
+  pub evaluated-more : (n : ℕ) → evaluated node first sees truth (n + 1) sig
+      ≡ set (evaluated node first sees truth n sig) (at node n) (signalOf first sees truth (at node n) (evaluated node first sees truth n sig))
+  unfolding evaluated
+  evaluated-more n = rw add-one
+
+  pub evaluated-length : (n : ℕ) → length (evaluated node first sees truth n sig) ≡ length sig
+  unfolding evaluated
+  evaluated-length zero = refl
+  evaluated-length (suc n) =
+      let before = evaluated node first sees truth n sig in
+      length-set before (at node n) (signalOf first sees truth (at node n) before) ∙ evaluated-length n
+
+  pub evaluated-bits : (n : ℕ) → Bits sig → Bits (evaluated node first sees truth n sig)
+  unfolding evaluated
+  evaluated-bits zero b = b
+  evaluated-bits (suc n) b =
+      let before = evaluated node first sees truth n sig in
+      bits-set before (at node n) (signalOf first sees truth (at node n) before) (omega arith) (evaluated-bits n b)
+
+-- ── What the registers show ─────────────────────────────────────────────────────────────────
+
+pub shown-start : (words sig : List ℕ) → Shown words 0 sig sig
+shown-start words sig = record { shows = λ e h. absurd (let y : ⊥ = omega arith in y); stays = λ v h. refl; bits = λ b. b }
+
+pub shown-more : (words : List ℕ) (e : ℕ) (sig₀ sig : List ℕ) → 512 + e < length sig → Shown words e sig₀ sig
+    → Shown words (e + 1) sig₀ (set sig (512 + e) (at words e % 2))
+shown-more words e sig₀ sig h s = record {
+  shows = λ k l. go k l (ℕ-discrete k e);
+  stays = λ v l. getD-set-other sig (512 + e) v (at words e % 2) 0 (let z : ¬ (v ≡ 512 + e) = λ q. omega arith in z) ∙ s .stays v l;
+  bits = λ b. bits-set sig (512 + e) (at words e % 2) (omega arith) (s .bits b);
+}
+  where
+    go : (k : ℕ) → k < e + 1 → Dec (k ≡ e) → at (set sig (512 + e) (at words e % 2)) (512 + k) ≡ bit (at words k) 0
+    go k l (yes z) =
+        subst (λ n. at (set sig (512 + e) (at words e % 2)) (512 + n) ≡ bit (at words n) 0) (sym z)
+        (getD-set-same sig (512 + e) (at words e % 2) 0 h ∙ simp div-one)
+    go k l (no z) = getD-set-other sig (512 + e) (512 + k) (at words e % 2) 0 (λ q. z (omega arith)) ∙ s .shows k (omega arith)
+
+-- ── The pins ────────────────────────────────────────────────────────────────────────────────
+
+module _ (kind : List ℕ) (k v : ℕ) where
+  pub among-hit : at kind v ≡ k → among kind k (v + 1) ≡ among kind k v + 1
+  among-hit q = rw add-one (ap length (gather-hit (at kind) (λ u. u) k v q) ∙ length-append (gather (at kind) (λ u. u) k v) (v ∷ []))
+
+  pub among-miss : ¬ (at kind v ≡ k) → among kind k (v + 1) ≡ among kind k v
+  among-miss q = rw add-one (ap length (gather-miss (at kind) (λ u. u) k v q))
+
+-- By cases at the last node.
+pub among-less : (kind : List ℕ) (k v n : ℕ) → at kind v ≡ k → v < n → among kind k v + 1 ≤ among kind k n
+among-less kind k v zero q h = absurd (omega arith)
+among-less kind k v (suc n) q h = go (ℕ-discrete v n) (ℕ-discrete (at kind n) k) (among-less kind k v n q)
+  where
+    go : Dec (v ≡ n) → Dec (at kind n ≡ k) → (v < n → among kind k v + 1 ≤ among kind k n) → among kind k v + 1 ≤ among kind k (suc n)
+    go (yes e) d less = omega (arith, rw add-one at (among-hit kind k v q), ap (λ i. among kind k (suc i)) e)
+    go (no e) (yes p) less = omega (arith, rw add-one at (among-hit kind k n p), less (omega arith))
+    go (no e) (no p) less = omega (arith, rw add-one at (among-miss kind k n p), less (omega arith))
+
+-- The inputs among the nodes below v have their bytes, and the next byte is at at1.
+pub record Entering (kind vectors : List ℕ) (at0 : ℕ) (sig₀ : List ℕ) (v at1 : ℕ) (sig : List ℕ) : Type 0 where
+  pub place : at1 ≡ at0 + among kind 0 v
+  pub size : length sig ≡ length sig₀
+  pub so-far : Entered kind v vectors at0 sig₀ sig
+
+module _ (kind vectors : List ℕ) (at0 : ℕ) (sig₀ : List ℕ) where
+  pub entering-start : Entering kind vectors at0 sig₀ 0 at0 sig₀
+  unfolding gather
+  entering-start = record {
+    place = omega arith;
+    size = refl;
+    so-far = record { inputs = λ v h. absurd (let y : ⊥ = omega arith in y); bits = λ b s. s };
+  }
+
+  module _ (v at1 : ℕ) (sig : List ℕ) (s : Entering kind vectors at0 sig₀ v at1 sig) where
+    pub entering-hit : v < length sig → at kind v ≡ 0 → (at2 : ℕ) (sig′ : List ℕ) → sig′ ≡ set sig v (at vectors at1) → at2 ≡ at1 + 1
+        → Entering kind vectors at0 sig₀ (v + 1) at2 sig′
+    entering-hit l q at2 sig′ e f = rw e record {
+      place = omega (arith, s .place, among-hit kind 0 v q);
+      size = length-set sig v (at vectors at1) ∙ s .size;
+      so-far = record {
+        inputs = λ u h z. go u h z (ℕ-discrete u v);
+        bits = λ b t. bits-set sig v (at vectors at1) (b at1) (s .so-far .bits b t);
+      };
+    }
+      where
+        go : (u : ℕ) → u < v + 1 → at kind u ≡ 0 → Dec (u ≡ v) → at (set sig v (at vectors at1)) u ≡ at vectors (at0 + among kind 0 u)
+        go u h z (yes p) =
+            subst (λ n. at (set sig v (at vectors at1)) n ≡ at vectors (at0 + among kind 0 n)) (sym p)
+            (getD-set-same sig v (at vectors at1) 0 l ∙ ap (at vectors) (s .place))
+        go u h z (no p) = getD-set-other sig v u (at vectors at1) 0 p ∙ s .so-far .inputs u (omega arith) z
+
+    pub entering-miss : ¬ (at kind v ≡ 0) → (at2 : ℕ) (sig′ : List ℕ) → sig′ ≡ sig → at2 ≡ at1 → Entering kind vectors at0 sig₀ (v + 1) at2 sig′
+    entering-miss q at2 sig′ e f = rw e record {
+      place = omega (arith, s .place, among-miss kind 0 v q);
+      size = s .size;
+      so-far = record { inputs = λ u h z. go u h z (ℕ-discrete u v); bits = s .so-far .bits };
+    }
+      where
+        go : (u : ℕ) → u < v + 1 → at kind u ≡ 0 → Dec (u ≡ v) → at sig u ≡ at vectors (at0 + among kind 0 u)
+        go u h z (yes p) = absurd (q (ap (at kind) (sym p) ∙ z))
+        go u h z (no p) = s .so-far .inputs u (omega arith) z
+
+-- The outputs among the nodes below v are written, and the next byte goes to at1.
+pub record Putting (kind sig old : List ℕ) (at0 v at1 : ℕ) (out : List ℕ) : Type 0 where
+  pub place : at1 ≡ at0 + among kind 1 v
+  pub so-far : out ≡ sets old at0 (gather (at kind) (at sig) 1 v)
+
+module _ (kind sig old : List ℕ) (at0 : ℕ) where
+  pub putting-start : Putting kind sig old at0 0 at0 old
+  unfolding gather
+  putting-start = record { place = omega arith; so-far = refl }
+
+  module _ (v at1 : ℕ) (out : List ℕ) (s : Putting kind sig old at0 v at1 out) where
+    pub putting-length : length out ≡ length old
+    putting-length = ap length (s .so-far) ∙ length-sets old at0 (gather (at kind) (at sig) 1 v)
+
+    pub putting-hit : at kind v ≡ 1 → (at2 : ℕ) (out′ : List ℕ) → out′ ≡ set out at1 (at sig v) → at2 ≡ at1 + 1 → Putting kind sig old at0 (v + 1) at2 out′
+    putting-hit q at2 out′ e f = record { place = omega (arith, s .place, among-hit kind 1 v q); so-far = e ∙ ap (λ l. set l at1 (at sig v)) (s .so-far) ∙ more }
+      where
+        done : List ℕ
+        done = gather (at kind) (at sig) 1 v
+
+        more : set (sets old at0 done) at1 (at sig v) ≡ sets old at0 (gather (at kind) (at sig) 1 (v + 1))
+        more =
+            sets-sets done (at sig v ∷ []) old at0 at1 (s .place ∙ ap (λ n. at0 + n) (gather-length (at kind) (λ u. u) (at sig) 1 v))
+            ∙ rw add-one (ap (sets old at0) (sym (gather-hit (at kind) (at sig) 1 v q)))
+
+    pub putting-miss : ¬ (at kind v ≡ 1) → (at2 : ℕ) (out′ : List ℕ) → out′ ≡ out → at2 ≡ at1 → Putting kind sig old at0 (v + 1) at2 out′
+    putting-miss q at2 out′ e f = record {
+      place = omega (arith, s .place, among-miss kind 1 v q);
+      so-far = e ∙ s .so-far ∙ rw add-one (ap (sets old at0) (sym (gather-miss (at kind) (at sig) 1 v q)));
+    }
+
+-- ── The words ───────────────────────────────────────────────────────────────────────────────
+
+module _ (from count sig words : List ℕ) where
+  rows : (n : ℕ) → length (joined (moved from count sig words) n) ≡ n
+  rows n = rows-length (λ e. moved-on (at count e) (at words e) (at sig (at from e))) n
+
+  pub moved-start : movedOn from count sig words 0 ≡ words
+  unfolding movedOn joined
+  moved-start = refl
+
+  pub moved-length : (n : ℕ) → n ≤ length words → length (movedOn from count sig words n) ≡ length words
+  unfolding movedOn
+  moved-length n h = length-append (joined (moved from count sig words) n) (drop n words) ∙ omega (arith, rows n, length-drop n words)
+
+  -- The words from the n-th on are as they were.
+  pub moved-at : (n : ℕ) (now : List ℕ) → now ≡ movedOn from count sig words n → at now n ≡ at words n
+  unfolding movedOn
+  moved-at n now e =
+      let xs = joined (moved from count sig words) n in
+      ap₂ at e (let z : n ≡ length xs + 0 = omega (arith, rows n) in z)
+      ∙ getD-append-add xs (drop n words) 0 0 ∙ getD-drop n words 0 0 ∙ ap (at words) (let z : n + 0 ≡ n = omega arith in z)
+
+  pub moved-more : (n x : ℕ) (now : List ℕ) → n < length words → now ≡ movedOn from count sig words n
+      → x ≡ moved-on (at count n) (at now n) (at sig (at from n)) → set now n x ≡ movedOn from count sig words (n + 1)
+  unfolding movedOn joined
+  moved-more n x now h e q =
+      let xs = joined (moved from count sig words) n in
+      let y = moved-on (at count n) (at words n) (at sig (at from n)) in
+      ap₂ (λ l z. set l n z) (e ∙ ap (λ l. xs ++ l) (drop-cons words n 0 h)) (q ∙ ap (λ z. moved-on (at count n) z (at sig (at from n))) (moved-at n now e))
+      ∙ set-at xs (at words n) (drop (suc n) words) y n (rows n)
+      ∙ rw add-one (sym (append-assoc xs (y ∷ []) (drop (suc n) words)))

@@ -1,0 +1,119 @@
+-- `simulate::plan::plan_of` meets its contract: the nodes in order, the edges by the node that they enter, signals and truth words make a plan (`planned`).
+-- Assumes nothing.
+use native.Mathlib.Omega.{arith}
+use borrow.Author.Needs.{needs}
+use Rattle.graph.specs.Columns.{at}
+use Rattle.netlist.proofs.Lowest.{few, laid}
+use Rattle.netlist.proofs.Run.{fit-rows}
+use Rattle.simulate.proofs.Seen.{ins-edge, first-rises, seen-count}
+use Rattle.simulate.proofs.Plans.{loop-kinds, kind-low, fan-low, planned}
+use Rattle.simulate.proofs.plan.plan_of.Statement.{statement}
+use Rattle.simulate.proofs.plan.plan_of.Tie as tie
+
+cast-nodes : tie.Need-cast-nodes
+cast-nodes c = search needs
+
+cast-edges : tie.Need-cast-edges
+cast-edges c = search needs
+
+by-rank-requires : tie.Need-by-rank-requires
+by-rank-requires c κs =
+    let s = c .before .before .before .before .before .before .before in
+    let net = s .args .t1 in (
+      (laid net (s .pre .0) (search needs) (search needs), omega (arith, fit-rows net (s .pre .0) .1)),
+      λ kind l. s .pre .1 .1 (loop-kinds (net .nodes) (net .edges) kind (net .kind) (net .from) (net .to) (at (net .count)) l),
+    )
+
+slice-aggregate-gates-of : tie.Need-slice-aggregate-gates-of
+slice-aggregate-gates-of c = search needs
+
+slice-aggregate-gates-of-2 : tie.Need-slice-aggregate-gates-of-2
+slice-aggregate-gates-of-2 c = search needs
+
+gates-of-requires : tie.Need-gates-of-requires
+gates-of-requires c κs =
+    let ranked = c .before .before .before .before .before in
+    let s = ranked .before .before .before .before .before .before .before .before in
+    let n = few (s .args .t1) (s .pre .0) in
+    ((omega (arith, ranked .by-rank .ok), omega arith, omega arith), ranked .by-rank .ensures .nodes-only)
+
+slice-aggregate-sort-by : tie.Need-slice-aggregate-sort-by
+slice-aggregate-sort-by c = search needs
+
+slice-aggregate-sort-by-2 : tie.Need-slice-aggregate-sort-by-2
+slice-aggregate-sort-by-2 c = search needs
+
+sort-by-requires : tie.Need-sort-by-requires
+sort-by-requires c κs =
+    let kept = c .before .before .before .before .before .before in
+    let ranked = kept .before .before .before .before .before .before in
+    let s = ranked .before .before .before .before .before .before .before .before in
+    let r = fit-rows (s .args .t1) (s .pre .0) in
+    (omega arith, omega arith, omega arith, omega arith)
+
+slice-aggregate-signals-of : tie.Need-slice-aggregate-signals-of
+slice-aggregate-signals-of c = search needs
+
+signals-of-requires : tie.Need-signals-of-requires
+signals-of-requires c κs =
+    let sorted = c .before .before .before in
+    let kept = sorted .before .before .before .before .before .before .before in
+    let ranked = kept .before .before .before .before .before .before in
+    let s = ranked .before .before .before .before .before .before .before .before in
+    let net = s .args .t1 in
+    let r = fit-rows net (s .pre .0) in
+    (r .1, omega (arith, sorted .sort-by .kept .1 .1 .1 .0), ins-edge net (s .pre .0) (r .1) (sorted .sort-by .ensures))
+
+slice-aggregate-truths-of : tie.Need-slice-aggregate-truths-of
+slice-aggregate-truths-of c = search needs
+
+truths-of-requires : tie.Need-truths-of-requires
+truths-of-requires c κs =
+    let sorted = c .before .before .before .before .before .before .before .before in
+    let kept = sorted .before .before .before .before .before .before .before in
+    let ranked = kept .before .before .before .before .before .before in
+    let s = ranked .before .before .before .before .before .before .before .before in
+    let net = s .args .t1 in
+    let r = fit-rows net (s .pre .0) in
+    let by-node = sorted .sort-by .ensures in (
+      (omega arith, omega (arith, sorted .sort-by .kept .1 .1 .1 .1 .0), r .0),
+      λ v h. (
+        kind-low net (s .pre .0) v h,
+        first-rises net (s .pre .0) (r .1) by-node v h,
+        omega (arith, seen-count net (s .pre .0) (r .1) by-node v h, fan-low net (s .pre .1 .0) v h),
+      ),
+    )
+
+ones-table-requires : tie.Need-ones-table-requires
+ones-table-requires c κs = search needs
+
+returns : tie.Need-returns
+returns c =
+    let sorted = c .before .before .before .before .before .before .before .before .before .before in
+    let kept = sorted .before .before .before .before .before .before .before in
+    let ranked = kept .before .before .before .before .before .before in
+    let s = ranked .before .before .before .before .before .before .before .before in
+    let net = s .args .t1 in
+    let r = fit-rows net (s .pre .0) in
+    planned net _ (s .pre .0) _ (ranked .by-rank .ensures) (kept .gates-of .ensures) (r .1) (sorted .sort-by .ensures)
+    (omega (arith, c .before .before .before .before .before .before .signals-of .ok)) (c .before .before .before .before .before .before .signals-of .ensures) (c .before .truths-of .ensures) (c .ones-table .ensures)
+
+pub plan-of-spec : {M : Type 1} → statement M
+plan-of-spec =
+    tie.close
+    (tie.spec
+    cast-nodes
+    cast-edges
+    by-rank-requires
+    slice-aggregate-gates-of
+    slice-aggregate-gates-of-2
+    gates-of-requires
+    slice-aggregate-sort-by
+    slice-aggregate-sort-by-2
+    sort-by-requires
+    slice-aggregate-signals-of
+    signals-of-requires
+    slice-aggregate-truths-of
+    truths-of-requires
+    ones-table-requires
+    returns)

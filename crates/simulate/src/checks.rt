@@ -1,0 +1,73 @@
+// Rule 13, and how many inputs and outputs there are.
+ghost use mathlib.Core.Path.{_≡_};
+ghost use mathlib.Core.List.{[], _∷_};
+ghost use Prim.Native.Nat.{_≤_};
+ghost use lib.Dec.{eqb};
+ghost use lib.ListN.{length};
+ghost use Rattle.rules.specs.Rules.{every};
+ghost use Rattle.netlist.specs.Theorems.{Fit};
+ghost use Rattle.simulate.specs.Clock.{before, inputs};
+ghost use Rattle.simulate.specs.Step.{bits, wordsFit};
+use netlist::Netlist;
+use rules::bits_fit;
+
+// How many nodes have the gate kind k.
+pub fn count_kind(net: Netlist, k: u8) -> usize
+    requires { ⌜ net .nodes ≤ 512 ⌝ }
+    ensures { λ r. ⌜ r ≡ before net k (net .nodes) ⌝ }
+{
+    let nodes = net.nodes as usize;
+    let mut n = 0;
+    let mut v = 0;
+    while v < nodes {
+        if net.kind[v] == k {
+            n += 1;
+        }
+        v += 1;
+    }
+    n
+}
+
+// Whether no byte is above 1.
+pub fn are_bits(vector: &[u8]) -> bool
+    ensures { λ r. ⌜ r ≡ bits (now (vector .entry)) ⌝ }
+{
+    let mut i = 0;
+    while i < vector.len() {
+        if 1 < vector[i] {
+            return false;
+        }
+        i += 1;
+    }
+    true
+}
+
+// Whether no machine word has a bit at or above its edge's count.
+fn words_fit(net: Netlist, words: &[u32]) -> bool
+    requires { ⌜ Fit net × (net .edges ≤ length (now words)) ⌝ }
+    ensures { λ r. ⌜ r ≡ wordsFit net (now (words .entry)) (net .edges) ⌝ }
+{
+    let edges = net.edges as usize;
+    let mut e = 0;
+    while e < edges {
+        if !bits_fit(words[e], net.count[e]) {
+            return false;
+        }
+        e += 1;
+    }
+    true
+}
+
+// Rule 13 of stepping: one vector, of bits, and words that fit.
+pub fn step_fits(net: Netlist, words: &[u32], vector: &[u8]) -> bool
+    requires { ⌜ Fit net × (net .edges ≤ length (now words)) ⌝ }
+    ensures { λ r. ⌜ r ≡ every (eqb (length (now (vector .entry))) (inputs net) ∷ bits (now (vector .entry)) ∷ wordsFit net (now (words .entry)) (net .edges) ∷ []) ⌝ }
+{
+    if vector.len() != count_kind(net, 0) {
+        return false;
+    }
+    if !are_bits(vector) {
+        return false;
+    }
+    words_fit(net, words)
+}

@@ -1,0 +1,115 @@
+// The evaluation plan, made once per netlist.
+use crate::gates::ones_table;
+use crate::gates::truth_of;
+use graph::by_rank;
+use graph::sort_by;
+use netlist::Netlist;
+ghost use mathlib.Core.Path.{_≡_};
+ghost use mathlib.Core.Bool.{cond};
+ghost use Prim.Native.Nat.{ℕ, suc, _+_, _<_, _≤_};
+ghost use lib.Dec.{eqb};
+ghost use lib.ListN.{length};
+ghost use Rattle.theory.specs.Walk.{Loop};
+ghost use Rattle.graph.specs.Columns.{at};
+ghost use Rattle.netlist.specs.Net.{graphOf, regsOf};
+ghost use Rattle.netlist.specs.Read.{FanIn};
+ghost use Rattle.netlist.specs.Read.{All};
+ghost use Rattle.netlist.specs.Theorems.{Fit};
+ghost use Rattle.simulate.specs.Plan.{signal, Planned};
+ghost use Rattle.simulate.specs.Parts.{Truth, Kept, seen};
+
+// gates: how many nodes are no inputs; node: these, in evaluation order; first: where the signals that node v sees begin, those of node v + 1 after them;
+// sees: the signals, in rising order of the edges; truth: the node's values by the number of ones; ones: the number of ones of a word.
+pub struct Plan {
+    pub gates: usize,
+    pub node: [u16; 512],
+    pub first: [u16; 513],
+    pub sees: [u16; 1024],
+    pub truth: [u32; 512],
+    pub ones: [u32; 256],
+}
+
+// The nodes of an order that are no inputs, in the same order. How many.
+fn gates_of(order: &[u16], kind: &[u8], nodes: usize, list: &mut [u16]) -> usize
+    requires { ⌜ (nodes ≤ length (now order)) × (nodes ≤ length (now kind)) × (nodes ≤ length (now list)) ⌝ }
+    requires { ⌜ ((p : ℕ) → p < nodes → at (now order) p < nodes) ⌝ }
+    ensures { λ r. ⌜ Kept (now (kind .entry)) (now (order .entry)) nodes (now (list .exit)) r ⌝ }
+{
+    let mut n = 0;
+    let mut i = 0;
+    while i < nodes {
+        let v = order[i];
+        if kind[v as usize] != 0 {
+            list[n] = v;
+            n += 1;
+        }
+        i += 1;
+    }
+    n
+}
+
+// Where the signal of edge e stands: at its source, or with its own register.
+fn signal_of(source: u16, count: u8, e: u16) -> u16
+    requires { ⌜ e < 1024 ⌝ }
+    ensures { λ r. ⌜ r ≡ cond (eqb count 0) source (512 + e) ⌝ }
+{
+    if count == 0 { source } else { 512 + e }
+}
+
+// The signals of the edges, in the order in which these stand in `ins`.
+fn signals_of(net: Netlist, ins: &[u16]) -> [u16; 1024]
+    requires { ⌜ (net .edges ≤ 1024) × (net .edges ≤ length (now ins)) × ((k : ℕ) → k < net .edges → at (now ins) k < net .edges) ⌝ }
+    ensures { λ r. ⌜ ((k : ℕ) → k < net .edges → at r k ≡ signal net (at (now (ins .entry)) k)) ⌝ }
+{
+    let edges = net.edges as usize;
+    let mut sees = [0u16; 1024];
+    let mut k = 0;
+    while k < edges {
+        let e = ins[k] as usize;
+        sees[k] = signal_of(net.from[e], net.count[e], ins[k]);
+        k += 1;
+    }
+    sees
+}
+
+// The truth words: node v has `first[v + 1] - first[v]` inputs.
+fn truths_of(kind: &[u8], first: &[u16], nodes: usize) -> [u32; 512]
+    requires { ⌜ (nodes ≤ length (now kind)) × (nodes < length (now first)) × (nodes ≤ 512) ⌝ }
+    requires { ⌜ ((v : ℕ) → v < nodes → (at (now kind) v < 10) × (at (now first) v ≤ at (now first) (suc v)) × (seen (now first) v ≤ 8)) ⌝ }
+    ensures { λ r. ⌜ ((v : ℕ) → v < nodes → Truth (at (now (kind .entry)) v) (seen (now (first .entry)) v) (at r v)) ⌝ }
+{
+    let mut truth = [0u32; 512];
+    let mut v = 0;
+    while v < nodes {
+        truth[v] = truth_of(kind[v], (first[v + 1] - first[v]) as u32);
+        v += 1;
+    }
+    truth
+}
+
+// The plan of a netlist that keeps the rules of its lines, and the rules 5 and 6.
+pub fn plan_of(net: Netlist) -> Plan
+    requires { ⌜ Fit net ⌝ }
+    requires { ⌜ All (FanIn (graphOf net)) (net .nodes) ⌝ }
+    requires { ⌜ ¬ Loop (graphOf net) (regsOf net .count) ⌝ }
+    ensures { λ r. ⌜ Planned net r ⌝ }
+{
+    let nodes = net.nodes as usize;
+    let edges = net.edges as usize;
+    let order = by_rank(&net.from, &net.to, &net.count, nodes, edges);
+    let mut node = [0u16; 512];
+    let gates = gates_of(&order, &net.kind, nodes, &mut node);
+    let mut first = [0u16; 513];
+    let mut ins = [0u16; 1024];
+    sort_by(&net.to, edges, nodes, &mut ins, &mut first);
+    let sees = signals_of(net, &ins);
+    let truth = truths_of(&net.kind, &first, nodes);
+    Plan {
+        gates,
+        node,
+        first,
+        sees,
+        truth,
+        ones: ones_table(),
+    }
+}

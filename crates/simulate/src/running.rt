@@ -1,0 +1,87 @@
+// Running: clocks in a row, one per vector.
+ghost use Rattle.netlist.specs.Answer.{says};
+ghost use Rattle.simulate.specs.Ran.{Runnable, Ran};
+ghost use Rattle.simulate.specs.Run.{Runs};
+use crate::checks::are_bits;
+use crate::checks::count_kind;
+use crate::clocks::clock;
+use crate::plan::plan_of;
+use netlist::Answer;
+use netlist::Netlist;
+use netlist::Place;
+
+// So many clocks from these words: their outputs to the front of `out`, and the words that they leave.
+pub fn clocks_of(
+    net: Netlist,
+    start: [u32; 1024],
+    clocks: usize,
+    vectors: &[u8],
+    out: &mut [u8],
+) -> [u32; 1024]
+    requires { ⌜ Runnable net clocks start (now vectors) (now out) ⌝ }
+    ensures { λ r. ⌜ Ran net clocks start (now (vectors .entry)) (now (out .entry)) r (now (out .exit)) ⌝ }
+{
+    let nodes = net.nodes as usize;
+    let edges = net.edges as usize;
+    let inputs = count_kind(net, 0);
+    let outputs = count_kind(net, 1);
+    let p = plan_of(net);
+    let gates = p.gates;
+    let mut words = start;
+    let mut sig = [0u32; 1536];
+    let mut enter = 0;
+    let mut leave = 0;
+    let mut t = 0;
+    while t < clocks {
+        clock(
+            &p.node,
+            &p.first,
+            &p.sees,
+            &p.truth,
+            &p.ones,
+            gates,
+            &net.kind,
+            &net.from,
+            &net.count,
+            nodes,
+            edges,
+            vectors,
+            enter,
+            &mut sig,
+            &mut words,
+            out,
+            leave,
+        );
+        enter += inputs;
+        leave += outputs;
+        t += 1;
+    }
+    words
+}
+
+// A text run from its start values, one clock per vector: the outputs at the front of `out`, or a refusal (1 to 7, 13, 12), which leaves it.
+pub fn run(text: &[u8], vectors: &[u8], out: &mut [u8]) -> Answer
+    ensures { λ r. ⌜ Runs (now (text .entry)) (now (vectors .entry)) (now (out .entry)) (says r) (now (out .exit)) ⌝ }
+{
+    let reading = netlist::read(text);
+    let a = reading.answer;
+    let Answer::Done(_) = a else {
+        return a;
+    };
+    let net = reading.net;
+    let inputs = count_kind(net, 0);
+    let outputs = count_kind(net, 1);
+    if vectors.len() % inputs != 0 {
+        return Answer::Refused(13, Place::Whole);
+    }
+    if !are_bits(vectors) {
+        return Answer::Refused(13, Place::Whole);
+    }
+    let clocks = vectors.len() / inputs;
+    if out.len() / outputs < clocks {
+        return Answer::Refused(12, Place::Whole);
+    }
+    let start = net.start;
+    clocks_of(net, start, clocks, vectors, out);
+    Answer::Done(clocks * outputs)
+}
