@@ -132,7 +132,7 @@ pub fn node_fits(kind: u8, delay: u8) -> bool
 pub fn bits_fit(word: u32, count: u8) -> bool
     ensures { λ r. ⌜ r ≡ ltb word (2 ^ count) ⌝ }
 {
-    if 32 < count {
+    if count > 32 {
         return true;
     }
     32 - (count as u32) <= u32::leading_zeros(word)
