@@ -5,6 +5,7 @@ mod reach;
 mod sort;
 
 pub use chains::settle;
+pub use reach::any_above;
 pub use reach::fan_ins;
 pub use reach::looped;
 pub use reach::reached;

@@ -25,7 +25,7 @@ pub fn fan_ins<'a>(from: &'a [u16], to: &'a [u16], nodes: usize, edges: usize) -
 }
 
 // Whether one of the first `nodes` times is above the period.
-fn any_above(time: &[u32], nodes: usize, period: u32) -> bool
+pub fn any_above(time: &[u32], nodes: usize, period: u32) -> bool
     requires { ⌜ nodes ≤ length (now time) ⌝ }
     ensures { λ r. ⌜ Told r (Above (now (time .entry)) nodes period) ⌝ }
 {
