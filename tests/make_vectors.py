@@ -16,6 +16,7 @@ from collections.abc import Callable
 from pathlib import Path
 
 from netlists import CARDS
+import running_cases as running
 from reading_cases import expected, reading_cases
 from reference import reread, text_of
 
@@ -36,19 +37,32 @@ def rereads_run() -> tuple[bytes, bytes]:
         for case, answer in zip(cases, answers):
             given.append(b"00%04X\n" % len(case.text) + case.text)
             printed.append(answer)
-        print(f"rereads: {name}: {len(cases)} texts; {numbers_given(answers)}")
+        print(f"rereads: {name}: {len(cases)} texts; {numbers_given(answers, 'read')}")
     return b"".join(given), b"".join(printed)
 
 
-def numbers_given(answers: list[bytes]) -> str:
-    """How often each number was given, for the reader of the run."""
+def run_run() -> tuple[bytes, bytes]:
+    """The program run: each text and its vectors after a frame `07` with their lengths and the room."""
+    given, printed = [], []
+    for name, cases in running.running_cases(SEED).items():
+        answers = [running.expected(case) for case in cases]
+        for case, answer in zip(cases, answers):
+            given.append(running.head(case) + case.text + case.vectors)
+            printed.append(answer)
+        print(f"run: {name}: {len(cases)} runs; {numbers_given(answers, 'ran')}")
+    return b"".join(given), b"".join(printed)
+
+
+def numbers_given(answers: list[bytes], none: str) -> str:
+    """How often each number was given, for the reader of the run; `none` where nothing is refused."""
     seen = Counter(int(a[2:4], 16) if a.startswith(b"0F") else 0 for a in answers)
-    return ", ".join(f"{number or 'read'}: {times}" for number, times in sorted(seen.items()))
+    return ", ".join(f"{number or none}: {times}" for number, times in sorted(seen.items()))
 
 
 RUNS: dict[str, Callable[[], tuple[bytes, bytes]]] = {
     "reread": reread_run,
     "rereads": rereads_run,
+    "run": run_run,
 }
 
 

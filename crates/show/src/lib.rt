@@ -51,7 +51,7 @@ pub fn put_refusal(q: u8, p: Place, out: &mut [u8]) -> usize
 }
 
 // A text read and written again.
-fn rewrite(text: &[u8], out: &mut [u8]) -> Answer
+pub fn rewrite(text: &[u8], out: &mut [u8]) -> Answer
     ensures { λ r. ⌜ Rewrites (now (text .entry)) (now (out .entry)) (says r) (now (out .exit)) ⌝ }
 {
     let reading = netlist::read(text);

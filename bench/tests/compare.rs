@@ -1,0 +1,287 @@
+//! The proved calls against the Rust ones, on many inputs, sound and damaged: equal answers, equal buffers in whole (also the
+//! bytes and words that must stay), equal machine words.
+
+use bench::generate::{any_sound, damage_netlist, damage_text, largest, text_of, Random};
+use bench::reference::{self, Answer, Netlist, INPUT, OUTPUT};
+use bench::{Record, EDGES, RECORD};
+
+fn pins(net: &Netlist, kind: u8) -> usize {
+    net.nodes.iter().filter(|node| node.kind == kind).count()
+}
+
+/// A buffer length around what is needed.
+fn room(rng: &mut Random, needed: usize) -> usize {
+    match rng.below(6) {
+        0 => 0,
+        1 => needed.saturating_sub(1),
+        2 => needed + 1,
+        3 => needed + rng.below(300),
+        4 => rng.below(needed + 1),
+        _ => needed,
+    }
+}
+
+fn filled(rng: &mut Random, len: usize) -> Vec<u8> {
+    (0..len).map(|_| rng.draw() as u8).collect()
+}
+
+/// A text: mostly damaged, sometimes sound, sometimes a damaged netlist written as it is.
+fn any_text(rng: &mut Random) -> (Netlist, Vec<u8>) {
+    let mut net = any_sound(rng);
+    let mut text = text_of(&net);
+    match rng.below(4) {
+        0 => {}
+        1 => damage_text(rng, &mut text),
+        _ => {
+            damage_netlist(rng, &mut net);
+            text = lines_of(&net);
+        }
+    }
+    (net, text)
+}
+
+/// The lines of any netlist, sound or not.
+fn lines_of(net: &Netlist) -> Vec<u8> {
+    let (n, e) = (net.nodes.len(), net.edges.len());
+    let mut text = format!("01{:04X}{:02X}{n:04X}{e:04X}\n", net.period, net.derate);
+    for node in &net.nodes {
+        text += &format!("02{:02X}{:02X}\n", node.kind, node.delay);
+    }
+    for edge in &net.edges {
+        text += &format!("03{:04X}{:04X}{:02X}{:08X}\n", edge.from, edge.to, edge.count, edge.start);
+    }
+    text.into_bytes()
+}
+
+/// How often each number was given; 0 where nothing is refused.
+#[derive(Default)]
+struct Seen([u32; 16]);
+
+impl Seen {
+    fn count(&mut self, answer: &Answer<usize>) {
+        self.0[answer.as_ref().map_or_else(|refusal| usize::from(refusal.number), |_| 0)] += 1;
+    }
+
+    /// Prints the counts (with `--nocapture`), and asks that each of these numbers was given.
+    fn show(&self, test: &str, wanted: &[usize]) {
+        let counts: Vec<String> = (0..16).filter(|&n| self.0[n] > 0).map(|n| format!("{n}: {}", self.0[n])).collect();
+        println!("{test}: {}", counts.join(", "));
+        for &number in wanted {
+            assert!(self.0[number] > 0, "{test}: {number} was never given");
+        }
+    }
+}
+
+#[test]
+fn reading_and_writing() {
+    let mut rng = Random::new(1);
+    let mut seen = Seen::default();
+    let large = text_of(&largest(&mut rng, 1));
+    for turn in 0..6000 {
+        let mut text = if turn % 100 == 0 { large.clone() } else { any_text(&mut rng).1 };
+        if turn % 200 == 0 {
+            damage_text(&mut rng, &mut text);
+        }
+        let room = room(&mut rng, text.len());
+        let mut out = filled(&mut rng, room);
+        let mut rust_out = out.clone();
+        let given = bench::reread(&text, &mut out);
+        let rust = reference::read(&text).and_then(|net| reference::write(&net, &mut rust_out));
+        assert_eq!(given, rust, "{}", String::from_utf8_lossy(&text));
+        assert!(out == rust_out);
+        seen.count(&given);
+
+        let (given, record) = bench::read(&text);
+        let (rust, rust_record) = match reference::read(&text) {
+            Ok(net) => (Ok(0), Record::of(&net)),
+            Err(refusal) => (Err(refusal), Record(vec![0; RECORD])),
+        };
+        assert_eq!(given, rust);
+        assert!(record == rust_record);
+    }
+    seen.show("reading and writing", &[0, 1, 2, 3, 4, 5, 6, 7, 12]);
+}
+
+#[test]
+fn texts_of_every_length() {
+    let mut rng = Random::new(2);
+    let text = text_of(&reference::read(&text_of(&any_sound(&mut rng))).unwrap());
+    for end in 0..=text.len() {
+        let mut out = [7; 64];
+        let rust = reference::read(&text[..end]).and_then(|net| reference::write(&net, &mut [7; 64]));
+        assert_eq!(bench::reread(&text[..end], &mut out), rust);
+        assert!(out == [7; 64] || rust.is_ok());
+    }
+}
+
+/// A record with any netlist in it, and any numbers in the rows past it.
+fn any_record(rng: &mut Random) -> (Netlist, Record) {
+    let mut net = if rng.one_in(60) { largest(rng, 1) } else { any_sound(rng) };
+    if rng.one_in(2) {
+        damage_netlist(rng, &mut net);
+    }
+    let mut record = Record::of(&net);
+    let (n, e) = (net.nodes.len(), net.edges.len());
+    for (column, used, size, limit) in [
+        (Record::KIND, n, 512, 1 << 8),
+        (Record::DELAY, n, 512, 1 << 8),
+        (Record::FROM, e, EDGES, 1 << 16),
+        (Record::TO, e, EDGES, 1 << 16),
+        (Record::COUNT, e, EDGES, 1 << 8),
+        (Record::START, e, EDGES, 1u64 << 32),
+    ] {
+        for i in used..size {
+            record.0[column + i] = (rng.draw() % limit) as u32;
+        }
+    }
+    if rng.one_in(20) {
+        // a head whose numbers no text's lines could keep: 2
+        let (n, e) = rng.pick(&[(0, 1), (1, 1), (513, 1), (65535, 1), (2, 0), (2, 1025), (512, 65535), (0, 0)]);
+        (record.0[2], record.0[3]) = (n as u32, e as u32);
+        net.nodes.resize(n, net.nodes[0]);
+        net.edges.resize(e, net.edges[0]);
+    }
+    (net, record)
+}
+
+#[test]
+fn writing_records() {
+    let mut rng = Random::new(3);
+    let mut seen = Seen::default();
+    for _ in 0..6000 {
+        let (net, record) = any_record(&mut rng);
+        let room = room(&mut rng, 17 + 7 * net.nodes.len().min(512) + 21 * net.edges.len().min(1024));
+        let mut out = filled(&mut rng, room);
+        let mut rust_out = out.clone();
+        let given = bench::write(&record, &mut out);
+        assert_eq!(given, reference::write(&net, &mut rust_out));
+        assert!(out == rust_out);
+        seen.count(&given);
+    }
+    seen.show("writing records", &[0, 2, 3, 4, 5, 6, 7, 12]);
+}
+
+/// One vector, mostly right.
+fn any_vector(rng: &mut Random, inputs: usize) -> Vec<u8> {
+    let mut vector = rng.bits(inputs);
+    match rng.below(12) {
+        0 => drop(vector.pop()),
+        1 => vector.push(0),
+        2 if inputs > 0 => {
+            let at = rng.below(inputs);
+            vector[at] = rng.pick(&[2, 3, 128, 255]);
+        }
+        _ => {}
+    }
+    vector
+}
+
+/// Machine words, mostly below their edges' counts; anything in those past the E-th.
+fn any_words(rng: &mut Random, net: &Netlist) -> [u32; EDGES] {
+    let mut words = [0; EDGES];
+    for word in &mut words {
+        *word = rng.draw() as u32;
+    }
+    for (word, edge) in words.iter_mut().zip(&net.edges) {
+        *word &= ((1u64 << edge.count.min(32)) - 1) as u32;
+    }
+    if rng.one_in(8) && !net.edges.is_empty() {
+        let at = rng.below(net.edges.len().min(EDGES));
+        let count = u32::from(net.edges[at].count);
+        if count < 32 {
+            words[at] |= 1 << rng.among(count as usize, 31);
+        }
+    }
+    words
+}
+
+type Step = fn(&Record, &mut [u32; EDGES], &[u8], &mut [u8]) -> Answer<usize>;
+
+fn stepping(name: &str, step: Step) {
+    let mut rng = Random::new(4);
+    let mut seen = Seen::default();
+    for _ in 0..6000 {
+        let (net, record) = any_record(&mut rng);
+        let vector = any_vector(&mut rng, pins(&net, INPUT));
+        let room = room(&mut rng, pins(&net, OUTPUT));
+        let mut out = filled(&mut rng, room);
+        let mut rust_out = out.clone();
+        let mut words = any_words(&mut rng, &net);
+        let mut rust_words = words;
+        let given = step(&record, &mut words, &vector, &mut out);
+        assert_eq!(given, reference::step(&net, &mut rust_words, &vector, &mut rust_out));
+        assert!(words == rust_words);
+        assert!(out == rust_out);
+        seen.count(&given);
+    }
+    seen.show(name, &[0, 2, 3, 4, 5, 6, 7, 12, 13]);
+}
+
+#[test]
+fn stepping_by_value() {
+    stepping("stepping", bench::step);
+}
+
+#[test]
+#[cfg(feature = "in_place")]
+fn stepping_in_place() {
+    stepping("stepping in place", bench::step_in_place);
+}
+
+#[test]
+fn running() {
+    let mut rng = Random::new(5);
+    let mut seen = Seen::default();
+    for turn in 0..6000 {
+        let (net, text) = match turn % 100 {
+            0 => {
+                let net = largest(&mut rng, 1);
+                let text = text_of(&net);
+                (net, text)
+            }
+            1..=40 => any_text(&mut rng),
+            _ => {
+                let net = any_sound(&mut rng);
+                let text = text_of(&net);
+                (net, text)
+            }
+        };
+        let clocks = rng.pick(&[0, 1, 2, 3, 7, 33, 70, 300]);
+        let mut vectors = rng.bits(clocks * pins(&net, INPUT));
+        if rng.one_in(8) {
+            vectors = any_vector(&mut rng, vectors.len());
+        }
+        let room = room(&mut rng, clocks * pins(&net, OUTPUT));
+        let mut out = filled(&mut rng, room);
+        let mut rust_out = out.clone();
+        let given = bench::run(&text, &vectors, &mut out);
+        assert_eq!(given, reference::run(&text, &vectors, &mut rust_out));
+        assert!(out == rust_out);
+        seen.count(&given);
+    }
+    seen.show("running", &[0, 1, 2, 3, 4, 5, 6, 7, 12, 13]);
+}
+
+/// "Running is stepping from the start values, one clock per vector."
+#[test]
+fn running_is_stepping() {
+    let mut rng = Random::new(6);
+    for _ in 0..60 {
+        let net = any_sound(&mut rng);
+        let (text, record) = (text_of(&net), Record::of(&net));
+        let (inputs, outputs) = (pins(&net, INPUT), pins(&net, OUTPUT));
+        let clocks = 50;
+        let vectors = rng.bits(clocks * inputs);
+        let mut out = vec![9; clocks * outputs];
+        assert_eq!(bench::run(&text, &vectors, &mut out), Ok(clocks * outputs));
+        let mut words = [0; EDGES];
+        for (word, edge) in words.iter_mut().zip(&net.edges) {
+            *word = edge.start;
+        }
+        for (vector, row) in vectors.chunks(inputs).zip(out.chunks(outputs)) {
+            let mut once = vec![9; outputs];
+            assert_eq!(bench::step(&record, &mut words, vector, &mut once), Ok(outputs));
+            assert!(once == row);
+        }
+    }
+}

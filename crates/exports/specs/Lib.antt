@@ -1,0 +1,2 @@
+-- Answers as numbers, for programs in other languages.
+pub mod Code
