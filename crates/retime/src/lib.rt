@@ -1,0 +1,1 @@
+// Retiming: definitions and theorems in specs/ and proofs/.
