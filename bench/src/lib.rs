@@ -30,7 +30,6 @@ unsafe extern "C" {
         out: *mut u8,
         out_len: usize,
     ) -> u64;
-    #[cfg(feature = "in_place")]
     fn exports_step_in_place(
         record: *const u32,
         record_len: usize,
@@ -140,14 +139,12 @@ pub fn step(record: &Record, words: &mut [u32; EDGES], vector: &[u8], out: &mut 
 }
 
 /// The machine record, laid out as Rattle's.
-#[cfg(feature = "in_place")]
 #[repr(C)]
 struct Machine {
     words: [u32; EDGES],
 }
 
 /// The same by the call that takes the machine by `&mut`.
-#[cfg(feature = "in_place")]
 pub fn step_in_place(record: &Record, words: &mut [u32; EDGES], vector: &[u8], out: &mut [u8]) -> Answer<usize> {
     let mut machine = Machine { words: *words };
     let code = unsafe {

@@ -223,7 +223,6 @@ fn stepping_by_value() {
 }
 
 #[test]
-#[cfg(feature = "in_place")]
 fn stepping_in_place() {
     stepping("stepping in place", bench::step_in_place);
 }

@@ -18,6 +18,7 @@ use records::machine_of;
 use records::put_machine;
 use records::put_record;
 use records::record_of;
+use simulate::Machine;
 
 // A place's kind and number.
 fn place_code(p: Place) -> u64
@@ -92,5 +93,18 @@ pub extern "C" fn exports_step(
     let next = stepped.machine;
     put_machine(next, words);
     let a = stepped.answer;
+    answer_code(a)
+}
+
+// One clock on a machine that is lent: the call that takes the record by &mut.
+#[no_mangle]
+pub extern "C" fn exports_step_in_place(
+    record: &[u32],
+    machine: &mut Machine,
+    vector: &[u8],
+    out: &mut [u8],
+) -> u64 {
+    let net = record_of(record);
+    let a = simulate::step_in_place(net, machine, vector, out);
     answer_code(a)
 }

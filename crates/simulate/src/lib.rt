@@ -12,6 +12,7 @@ pub use stepping::step;
 pub use stepping::step_in_place;
 
 // "a machine record: one 32-bit word per edge, laid out as start values; words past the E-th are neither read nor changed."
+#[repr(C)]
 pub struct Machine {
     pub words: [u32; 1024],
 }

@@ -2,7 +2,7 @@
 --   look k c vals x     what the operand x shows: below 32 the chosen bit x, else the value of cell x − 32
 --   operandsOf          the operands of a cell
 --   valuesTo            the values of the first n cells
---   Wanted, Holds       a cell gives what is wanted of it (2: nothing is); all cells do
+--   Holds               every cell gives what is wanted of it (2: nothing is)
 --   Solves              the smallest choice that does, or that none does
 -- Assumes nothing.
 use mathlib.Core.Path.{_≡_}

@@ -1,0 +1,46 @@
+// How many leading bits of the choice each cell hangs on.
+ghost use mathlib.Core.Path.{_≡_};
+ghost use Prim.Native.Nat.{ℕ, _-_, _≤_, _<_};
+ghost use lib.ListN.{length};
+ghost use Rattle.graph.specs.Columns.{at};
+ghost use Rattle.solve.specs.Parts.{reach, Most, Wired, Spans};
+
+// .. an operand: a chosen bit on those up to it, a cell on its span.
+fn reach_of(x: u16, span: &[u16]) -> u16
+    requires { ⌜ (32 ≤ x → x - 32 < length (now span)) ⌝ }
+    ensures { λ r. ⌜ r ≡ reach (now (span .entry)) x ⌝ }
+{
+    if x < 32 { x + 1 } else { span[x as usize - 32] }
+}
+
+// .. a row of operands: the most that one of them does.
+fn span_of(operand: &[u16], start: usize, end: usize, span: &[u16]) -> u16
+    requires { ⌜ end ≤ length (now operand) ⌝ }
+    requires { ⌜ ((j : ℕ) → start ≤ j → j < end → 32 ≤ at (now operand) j → at (now operand) j - 32 < length (now span)) ⌝ }
+    ensures { λ r. ⌜ Most (now (operand .entry)) (now (span .entry)) start end r ⌝ }
+{
+    let mut most: u16 = 0;
+    let mut j = start;
+    while j < end {
+        let s = reach_of(operand[j], span);
+        if most < s {
+            most = s;
+        }
+        j += 1;
+    }
+    most
+}
+
+// .. each cell, by its operands, which come before it.
+pub fn spans<'a>(first: &'a [u16], operand: &'a [u16], cells: usize, k: u32) -> [u16; 12288]
+    requires { ⌜ Wired cells k (now first) (now operand) ⌝ }
+    ensures { λ r. ⌜ Spans k (now (first .entry)) (now (operand .entry)) r cells ⌝ }
+{
+    let mut span = [0u16; 12288];
+    let mut i = 0;
+    while i < cells {
+        span[i] = span_of(operand, first[i] as usize, first[i + 1] as usize, &span);
+        i += 1;
+    }
+    span
+}
