@@ -1,0 +1,69 @@
+-- `retime::cells::bytes_of` meets its contract: the bytes below e are filled.
+-- Assumes nothing.
+use Prim.Native.Nat.{ℕ, _+_, _*_, _-_, _≤_, _<_}
+use mathlib.Core.Path.{_≡_, refl, sym, ap, ap₂, subst, _∙_}
+use mathlib.Core.Logic.{⊎-elim}
+use mathlib.Core.List.{List}
+use native.Mathlib.Omega.{arith}
+use denote.Ref.{now}
+use lib.ListN.{length, length-set}
+use borrow.Author.Needs.{needs}
+use Rattle.graph.specs.Columns.{at}
+use Rattle.graph.proofs.Fills.{fill-more}
+use Rattle.retime.proofs.cells.bytes_of.Statement.{statement}
+use Rattle.retime.proofs.cells.bytes_of.Tie as tie
+
+abbrev Inv-loop : tie.InvT-loop
+Inv-loop counts edges bytes₀ e₀ bytes e = (e ≤ edges) × (length bytes ≡ 1024) × ((j : ℕ) → j < e → at bytes j ≡ at counts j)
+
+abbrev μ-loop : tie.MeasureT-loop
+μ-loop counts edges bytes₀ e₀ bytes e = edges - e
+
+loop-holds : tie.Need-loop-holds Inv-loop μ-loop
+loop-holds c = (omega arith, refl, λ j h. absurd (let z : ⊥ = omega arith in z))
+
+mul-bytes : tie.Need-mul-bytes Inv-loop μ-loop
+mul-bytes c = search needs
+
+shared-slice-read-bytes : tie.Need-shared-slice-read-bytes Inv-loop μ-loop
+shared-slice-read-bytes c = search needs
+
+cast-bytes : tie.Need-cast-bytes Inv-loop μ-loop
+cast-bytes c = omega (arith, c .before .before .before .pre .2 (c .before .before .loop .e) (c .before .loop-test .taken))
+
+array-write-bytes : tie.Need-array-write-bytes Inv-loop μ-loop
+array-write-bytes c = search needs
+
+add-e : tie.Need-add-e Inv-loop μ-loop
+add-e c = search needs
+
+loop-less : tie.Need-loop-less Inv-loop μ-loop
+loop-less c = search needs
+
+loop-again : tie.Need-loop-again Inv-loop μ-loop
+loop-again c =
+    let a = c .before .before .before .args in
+    let l = c .before .before .loop in (
+      omega arith,
+      length-set (l .bytes) (l .e) _ ∙ l .inv .1,
+      fill-more (at (now (a .counts))) (l .bytes) (l .e) _ (omega arith) refl (l .inv .2),
+    )
+
+returns : tie.Need-returns Inv-loop μ-loop
+returns c = λ j h. c .before .loop .inv .2 j (omega arith)
+
+pub bytes-of-spec : {M : Type 1} → statement M
+bytes-of-spec =
+    tie.close
+    (tie.spec
+    Inv-loop
+    μ-loop
+    loop-holds
+    mul-bytes
+    shared-slice-read-bytes
+    cast-bytes
+    array-write-bytes
+    add-e
+    loop-less
+    loop-again
+    returns)

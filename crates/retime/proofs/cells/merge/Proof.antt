@@ -1,0 +1,25 @@
+-- `retime::cells::merge` meets its contract.
+-- Assumes nothing.
+use Prim.Native.Nat.{ℕ, _+_, _*_, _-_, _≤_, _<_}
+use mathlib.Core.Path.{_≡_, refl, sym, ap, ap₂, subst, _∙_}
+use mathlib.Core.Logic.{⊎-elim}
+use mathlib.Core.List.{List}
+use native.Mathlib.Omega.{arith}
+use denote.Ref.{now}
+use lib.ListN.{length, length-set}
+use borrow.Author.Needs.{needs}
+use Rattle.retime.proofs.Wants.{merge-first, merge-same, merge-other}
+use Rattle.retime.proofs.cells.merge.Statement.{statement}
+use Rattle.retime.proofs.cells.merge.Tie as tie
+
+returns : tie.Need-returns
+returns c = sym (merge-first (c .before .args .wanted) (c .before .args .value) (c .if1 .taken))
+
+returns-2 : tie.Need-returns-2
+returns-2 c = sym (merge-same (c .before .before .args .wanted) (c .before .before .args .value) (c .before .if1 .left) (c .if2 .taken))
+
+returns-3 : tie.Need-returns-3
+returns-3 c = sym (merge-other (c .before .before .args .wanted) (c .before .before .args .value) (c .before .if1 .left) (c .if2 .left))
+
+pub merge-spec : {M : Type 1} → statement M
+merge-spec = tie.close (tie.spec returns returns-2 returns-3)
