@@ -10,10 +10,10 @@
 --   number-bytes, bytes-number   a number as n bytes, and back
 --   framed-bad, framed-line      what the code's record says of the line
 --   placed-room, placed-full     a line written where there is room, and where there is none
---   sets-end, sets-sets          a write after what is written; two writes in a row
+--   sets-sets                    two writes in a row
 --   length-...                   lengths of digits, lines, bytes of a number, buffers
 -- Assumes nothing.
-use mathlib.Core.Path.{_≡_, refl, sym, _∙_, ap, ap₂}
+use mathlib.Core.Path.{_≡_, refl, sym, _∙_, ap}
 use mathlib.Core.Bool.{Bool, true, false, cond}
 use mathlib.Core.List.{List, [], _∷_, _++_}
 use Prim.Native.Nat.{ℕ, zero, suc, _+_, _-_, _*_, _^_, _/_, _%_, _≤_, _<_}
@@ -23,7 +23,7 @@ use native.Mathlib.Nat.{pow-suc, mul-assoc, add-mul, mul-le-mul-right, mul-add-d
 use lib.Pow.{pow-add}
 use lib.Dec.{eqb, ltb, leb}
 use lib.ListN.{length, take, drop, set, replicate, length-append, length-drop}
-use lib.Seq.{sets, sets-eq, length-sets, take-at, drop-at, drop-drop, drop-append-add}
+use lib.Seq.{sets, length-sets, drop-at, drop-drop}
 use borrow.Author.Tests.{ltb-true, leb-true, eqb-true, lt-ltb, le-ltb, le-leb, lt-leb, eq-eqb}
 use Rattle.frame.specs.Frame.{within, digitOf, Line, bad, line, with-byte, lineAt, of-kind, frameAt, number, charOf, hexOf, lineOf, bytesOf}
 use Rattle.frame.specs.Decoded.{byteOf, decoded, framed, placed}
@@ -329,15 +329,6 @@ length-placed l at vs = go (leb (at + length vs) (length l))
     go : (t : Bool) → length (cond t (sets l at vs) l) ≡ length l
     go true = length-sets l at vs
     go false = refl
-
--- A write at the end of what is written.
-pub sets-end : (a old vs : List ℕ) (n : ℕ) → length a ≡ n → n + length vs ≤ length old
-    → sets (a ++ drop n old) n vs ≡ (a ++ vs) ++ drop (n + length vs) old
-sets-end a old vs n e h =
-    let f : n + length vs ≤ length (a ++ drop n old) = simp (length-append, length-drop) (omega arith) in
-    let g : drop (n + length vs) (a ++ drop n old) ≡ drop (n + length vs) old =
-    rw (← e) (drop-append-add a (drop (length a) old) (length vs) ∙ drop-drop (length vs) (length a) old) in
-    sets-eq vs (a ++ drop n old) n f ∙ ap₂ (λ x y. (x ++ vs) ++ y) (take-at a (drop n old) n e) g
 
 -- Two runs of stores, one after the other.
 pub sets-sets : (vs ws l : List ℕ) (i j : ℕ) → j ≡ i + length vs → sets (sets l i vs) j ws ≡ sets l i (vs ++ ws)

@@ -1,4 +1,5 @@
 // The engine: arrival times by sweeps over the edges until nothing changes.
+// Required: columns that are long enough, ends of edges that are nodes. Reading makes sure of both.
 ghost use mathlib.Core.Path.{_≡_};
 ghost use Prim.Native.Nat.{ℕ, suc, _+_, _≤_, _<_, min};
 ghost use lib.ListN.{length};

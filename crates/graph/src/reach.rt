@@ -1,4 +1,5 @@
 // Three questions about a graph: how many edges enter each node, whether there is a loop without a register, which nodes are reached.
+// Required: columns that are long enough, ends of edges that are nodes. Reading makes sure of both.
 use crate::chains::settle;
 ghost use mathlib.Core.Path.{_≡_};
 ghost use mathlib.Core.List.{List};

@@ -1,4 +1,5 @@
 // Rounds: every late node's label goes up by one, until none is late, or a pin is, or there were as many rounds as nodes.
+// What is required, `Sure`, is true of every netlist that reads (proofs/Laws, `read-sure`).
 use crate::Labels;
 use crate::start::first_labels;
 use graph::any_above;

@@ -1,4 +1,5 @@
 // The labels to start from: 16,384 less the fewest registers between a pin and the node. No legal retiming has a lower one.
+// What is required, `Sure`, is true of every netlist that reads (proofs/Laws, `read-sure`).
 use netlist::Netlist;
 ghost use mathlib.Core.Path.{_≡_};
 ghost use Prim.Native.Nat.{ℕ, _+_, _≤_, _<_};

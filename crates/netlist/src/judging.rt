@@ -1,4 +1,5 @@
 // Rules 5, 6 and 7, of a netlist whose lines are right.
+// Private to the crate: `read` comes here once the lines are right.
 ghost use mathlib.Core.Path.{_≡_};
 ghost use Rattle.netlist.specs.Answer.{says, whole};
 ghost use Rattle.netlist.specs.Net.{graphOf};

@@ -6,6 +6,7 @@ mod writing;
 
 pub use lines::read;
 pub use writing::check;
+pub use writing::put_text;
 pub use writing::write;
 
 // "A netlist is its head, its N nodes and its E edges; record rows past them are read by nothing, and reading makes them 0."

@@ -105,8 +105,8 @@ fn text_len(net: Netlist) -> usize
     17 + 7 * (net.nodes as usize) + 21 * (net.edges as usize)
 }
 
-// The text at the front of `out`; its length.
-fn put_text(net: Netlist, out: &mut [u8]) -> usize
+// The text at the front of `out`; its length. Required: a head in its ranges, and room; `write` and retiming have made sure of both.
+pub fn put_text(net: Netlist, out: &mut [u8]) -> usize
     requires { ⌜ (net .nodes ≤ 512) × (net .edges ≤ 1024) × (length (textOf net) ≤ length (now out)) ⌝ }
     ensures { λ r. ⌜ (now (out .exit) ≡ sets (now (out .entry)) 0 (textOf net)) × (r ≡ length (textOf net)) ⌝ }
 {

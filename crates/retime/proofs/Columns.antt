@@ -10,14 +10,14 @@ use mathlib.Core.Bool.{cond}
 use mathlib.Core.Logic.{inl}
 use mathlib.Core.List.{List, _∷_, map}
 use lib.Dec.{ltb}
-use lib.ListN.{length, take, drop, length-append}
+use lib.ListN.{length, take, drop}
 use lib.Seq.{drop-cons}
 use Rattle.theory.specs.Clock.{gather}
 use Rattle.theory.specs.Move.{sum}
 use Rattle.theory.proofs.clocks.Seen.{gather-same}
 use Rattle.graph.specs.Columns.{at}
 use Rattle.graph.specs.Sort.{group, sorted, Sorts}
-use Rattle.graph.proofs.Sorted.{sorted-grows, sorted-part, sorted-room, sorted-length, sets-at}
+use Rattle.graph.proofs.Sorted.{sorted-part}
 use Rattle.netlist.specs.declared.Netlist.{Netlist}
 use Rattle.netlist.specs.Net.{graphOf}
 use Rattle.netlist.proofs.Run.{fit-wired}
@@ -30,6 +30,7 @@ use Rattle.retime.specs.Wants.{Celled, Wants}
 use Rattle.retime.proofs.Labels.{low-nodes, sum-more}
 use Rattle.retime.proofs.Sources.{sum-grows}
 use Rattle.retime.proofs.Compiles.{gather-map}
+use Rattle.retime.proofs.Enters.{all-edges, ins-at, width}
 
 pub celled : (lag : ℕ → ℕ) (order : List ℕ) (nodes cells : ℕ) (id code : List ℕ) → nodes ≤ 512 → ((v : ℕ) → v < nodes → lag v ≤ 24)
     → Numbered lag order nodes 24 0 cells id code → Celled lag nodes cells id code
@@ -78,33 +79,18 @@ module _ (net : Netlist) (lab counts base order id code old ins begin kind first
   unfolding sourceAt cell
   source-is t e h = ap₂ (λ m a. cond (ltb t m) (a + t) (32 + at id (at (net .from) e * 32 + (t - m)))) (c e h) (b e (omega arith))
 
-  all : List ℕ
-  all = sorted (net .to) (net .edges) (net .nodes)
-
-  all-edges : length all ≡ net .edges
-  unfolding all
-  all-edges = sorted-length (net .to) (net .edges) (net .nodes) (fit-wired net (s .fit) .dst-in)
-
-  ins-at : (k : ℕ) → k < net .edges → at ins k ≡ at all k
-  unfolding all
-  ins-at k h = ap (λ xs. at xs k) (st .placed) ∙ sets-at all old k (omega (arith, all-edges)) (omega (arith, all-edges))
-
-  width : (v : ℕ) → v < net .nodes → (at begin v ≤ at begin (v + 1)) × (at begin (v + 1) ≤ net .edges) × (at begin (v + 1) - at begin v ≡ length (group (net .to) v (net .edges)))
-  unfolding sorted
-  width v h =
-      let p : at begin (v + 1) ≡ length (sorted (net .to) (net .edges) (suc v)) = ap (at begin) (add-one v) ∙ st .begins (suc v) h in
-      let q = st .begins v (omega arith) in
-      let g = length-append (sorted (net .to) (net .edges) v) (group (net .to) v (net .edges)) in
-      let l = sorted-room (net .to) (net .edges) (suc v) in
-      ((let z : at begin v ≤ at begin (v + 1) = omega (arith, p, q, g) in z), (let z : at begin (v + 1) ≤ net .edges = omega (arith, p, l) in z), (let z : at begin (v + 1) - at begin v ≡ length (group (net .to) v (net .edges)) = omega (arith, p, q, g) in z))
+  inside : (e : ℕ) → e < net .edges → at (net .to) e < net .nodes
+  inside = fit-wired net (s .fit) .dst-in
 
   shown : (v t : ℕ) → v < net .nodes → t < lagAt lab v → operandsOf first operand (cell v t) ≡ gather (at (net .to)) (source net (lagsOf lab) cell t) v (net .edges)
-  unfolding cell all
+  unfolding cell
   shown v t hv ht =
       let i = cell v t in
       let hi : i < cells = okay .inside v t hv ht in
       let d : at code i / 32 ≡ v = node-of v t hv ht in
-      let w = width v hv in
+      let w = width (net .to) (net .edges) (net .nodes) old ins begin inside room st v hv in
+      let all = sorted (net .to) (net .edges) (net .nodes) in
+      let every = all-edges (net .to) (net .edges) (net .nodes) old ins begin inside room st in
       let f : ℕ → ℕ = sourceAt (net .from) counts base id t in
       let m : ℕ = length (group (net .to) v (net .edges)) in
       let size : widthAt begin code i ≡ m = ap (λ u. at begin (u + 1) - at begin u) d ∙ w .2 in
@@ -114,9 +100,9 @@ module _ (net : Netlist) (lab counts base order id code old ins begin kind first
       let more = sum-more (widthAt begin code) i in
       let take-is : at first (suc i) - at first i ≡ m = omega (arith, first-i, next-i, size) in
       ap₂ (λ x y. take x (drop y operand)) take-is first-i
-      ∙ part-map f all operand m (sum (widthAt begin code) i) (at begin v) (omega (arith, rows, grow, more, size)) (omega (arith, all-edges, w .0, w .1, w .2))
+      ∙ part-map f all operand m (sum (widthAt begin code) i) (at begin v) (omega (arith, rows, grow, more, size)) (omega (arith, every, w .0, w .1, w .2))
       (λ k l. os .shown i hi k (omega (arith, size)) ∙ ap₂ (λ x u. sourceAt (net .from) counts base id x (at ins (at begin u + k))) (clock-of v t hv ht) d
-      ∙ ap f (ins-at (at begin v + k) (omega (arith, w .0, w .1, w .2))))
+      ∙ ap f (ins-at (net .to) (net .edges) (net .nodes) old ins begin inside room st (at begin v + k) (omega (arith, w .0, w .1, w .2))))
       ∙ ap (λ y. map f (take m (drop y all))) (st .begins v (omega arith))
       ∙ ap (map f) (sorted-part (net .to) (net .edges) v (net .nodes) hv)
       ∙ gather-map f (at (net .to)) (λ e. e) v (net .edges)

@@ -1,31 +1,34 @@
 -- Labels and lags; the new counts and the chosen values by labels.
---   lag-label           label = 16,384 + lag
 --   up-high, up-low     the positive part of a label's lag
+--   lag-word, lag-fits  two bytes hold it; it is a 32-bit number
 --   new-fits, new-is    a new count by the labels of the edge's ends
 --   wide-edge, wide-none    the lowest count above 32 is retiming's
 --   all-more            one further
 --   sum-more, base-none, chosen-more    running sums
 -- Assumes nothing.
-use Prim.Native.Nat.{ℕ, _+_, _-_, _≤_, _<_, min}
+use Prim.Native.Nat.{ℕ, suc, _+_, _-_, _≤_, _<_, min}
 use native.Mathlib.Omega.{arith}
 use native.Mathlib.Numerals.{add-one}
 use native.Mathlib.Decide.{ℕ-discrete, decLt}
 use mathlib.Core.Path.{_≡_, refl, sym, subst, ap, ap₂, _∙_}
+use mathlib.Core.Bool.{Bool, true, false, cond}
 use mathlib.Core.List.{List}
+use mir.Syntax.{w32}
+use mir.Val.{SFits}
+use lib.Dec.{ltb}
+use lib.IntN.{pos, negsuc}
+use lib.Signed.{mag}
 use Rattle.theory.specs.Lag.{up, down}
 use Rattle.theory.specs.Move.{sum}
 use Rattle.theory.specs.Retimer.{TooWide, Narrow}
 use Rattle.theory.proofs.numbers.Whole.{no-down}
-use Rattle.theory.proofs.labels.Bias.{Label, label-lag}
 use Rattle.graph.specs.Columns.{at}
 use Rattle.netlist.specs.declared.Netlist.{Netlist}
 use Rattle.netlist.specs.Net.{graphOf, regsOf}
 use Rattle.netlist.proofs.Run.{fit-rows, fit-wired}
-use Rattle.retime.specs.Labels.{lagOf, lagsOf, Labelled, countAt, Counts, Wide, chosenAt}
-
-pub lag-label : (l : ℕ) → Label 16384 (lagOf l) l
-unfolding lagOf
-lag-label l = label-lag 16384 l
+use Rattle.lags.specs.Lags.{lagOf}
+use Rattle.lags.proofs.Laws.{lag-label}
+use Rattle.retime.specs.Labels.{lagsOf, Labelled, countAt, Counts, Wide, chosenAt}
 
 pub up-high : (l : ℕ) → 16384 < l → l - 16384 ≡ up (lagOf l)
 up-high l h = let q = lag-label l in omega (arith, q, no-down (lagOf l) (omega (arith, q)))
@@ -36,6 +39,23 @@ up-low l h = go (decLt 0 (up (lagOf l)))
     go : Dec (0 < up (lagOf l)) → 0 ≡ up (lagOf l)
     go (yes k) = absurd (let z : ⊥ = omega (arith, lag-label l, no-down (lagOf l) k) in z)
     go (no k) = omega arith
+
+-- Two bytes hold it.
+pub lag-word : (l : ℕ) → l < 32768 → (up (lagOf l) < 32768) × (down (lagOf l) ≤ 32768)
+lag-word l h = go (decLt 0 (up (lagOf l)))
+  where
+    go : Dec (0 < up (lagOf l)) → (up (lagOf l) < 32768) × (down (lagOf l) ≤ 32768)
+    go (yes k) = (omega (arith, lag-label l, no-down (lagOf l) k), omega (arith, no-down (lagOf l) k))
+    go (no k) = (omega arith, omega (arith, lag-label l))
+
+-- A lag is a 32-bit number.
+mag-by : (a b : ℕ) (t : Bool) → mag (cond t (negsuc (b - suc a)) (pos (a - b))) ≤ a + b
+mag-by a b true = omega arith
+mag-by a b false = omega arith
+
+pub lag-fits : (l : ℕ) → l < 32768 → SFits w32 (lagOf l)
+unfolding lagOf
+lag-fits l h = record { sfits = omega (arith, mag-by l 16384 (ltb l 16384)) }
 
 module _ (net : Netlist) (lab : List ℕ) (s : Labelled net lab) (e : ℕ) (h : e < net .edges) where
   pub from-node : at (net .from) e < net .nodes

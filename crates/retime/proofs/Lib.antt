@@ -16,14 +16,17 @@ pub mod Moved
 pub mod Programs
 pub mod Compiles
 -- The columns that `cells` fills are that program.
+pub mod Enters
 pub mod Columns
 pub mod Widths
-pub mod Enters
-pub mod Readies
+pub mod Right
 -- New start values, and the original stepped with all inputs at 0.
 pub mod Quiet
+pub mod Found
 -- The ends of a call, in their order.
 pub mod Ends
+-- From what the call found to what it says.
+pub mod Answers
 -- The evaluation order of the moved netlist.
 pub mod Orders
 -- The bench cards as texts.

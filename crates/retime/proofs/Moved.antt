@@ -1,5 +1,4 @@
 -- A netlist with other registers: it reads where they are sound and no count is above 32.
---   withColumns         the netlist with other counts and words
 --   with-same           registers that are the same give the same record
 --   with-is             the record of columns that hold the registers
 --   with-regs           its circuit has these registers
@@ -29,23 +28,10 @@ use Rattle.netlist.proofs.theorems.Lines.{lines-fact}
 use Rattle.netlist.proofs.theorems.Refusals.{none-fact}
 use Rattle.netlist.proofs.theorems.Sound.{reads-value}
 use Rattle.retime.specs.Retime.{wordOf, withRegs}
-use Rattle.retime.proofs.Words.{sum-same, word-fits, word-bit, word-is}
+use Rattle.retime.specs.Starts.{Filled, none, withColumns}
+use Rattle.retime.proofs.Words.{sum-same, word-fits, word-bit}
 use Rattle.retime.proofs.Rows.{column-length, column-in, column-past, column-is, column-same}
 use Rattle.retime.proofs.Lags.{registers-alike}
-
-abbrev pub withColumns : Netlist → List ℕ → List ℕ → Netlist
-withColumns net counts words = record {
-  period = net .period;
-  derate = net .derate;
-  nodes = net .nodes;
-  edges = net .edges;
-  kind = net .kind;
-  delay = net .delay;
-  from = net .from;
-  to = net .to;
-  count = counts;
-  start = words;
-}
 
 pub with-same : (net : Netlist) (R R′ : Regs) → SameRegs (graphOf net) R R′ → withRegs net R′ ≡ withRegs net R
 with-same net R R′ same =
@@ -57,14 +43,10 @@ with-same net R R′ same =
 
 -- The record that code fills: a column of counts and a column of words that hold these registers, and 0 past them.
 pub with-is : (net : Netlist) (R : Regs) (counts words : List ℕ) → net .edges ≤ 1024 → length counts ≡ 1024 → length words ≡ 1024
-    → ((e : ℕ) → e < net .edges → (getD counts e 0 ≡ R .count e) × (getD words e 0 < 2 ^ R .count e) × ((k : ℕ) → k < R .count e → bit (getD words e 0) k ≡ R .start e k))
-    → ((e : ℕ) → net .edges ≤ e → (getD counts e 0 ≡ 0) × (getD words e 0 ≡ 0))
-    → withRegs net R ≡ withColumns net counts words
-with-is net R counts words few p q rows past =
-    let a = column-is (R .count) (net .edges) few counts p (λ e h. rows e h .0) (λ e h. past e h .0) in
-    let b = column-is (λ e. wordOf (R .start e) (R .count e)) (net .edges) few words q
-    (λ e h. let x = rows e h in sym (word-is (R .start e) (R .count e) (getD words e 0) (x .1) (x .2))) (λ e h. past e h .1) in
-    ap₂ (withColumns net) a b
+    → Filled (R .count) none (net .edges) counts → Filled (λ e. wordOf (R .start e) (R .count e)) none (net .edges) words → withRegs net R ≡ withColumns net counts words
+with-is net R counts words few p q a b =
+    ap₂ (withColumns net) (column-is (R .count) (net .edges) few counts p (a .rows) (a .past))
+    (column-is (λ e. wordOf (R .start e) (R .count e)) (net .edges) few words q (b .rows) (b .past))
 
 -- The edge's other numbers keep rule 4, whatever its registers.
 edge-fits-with : (nodes : ℕ) (kind : ℕ → ℕ) (u v w s w′ s′ : ℕ) → edgeFits nodes kind u v w s ≡ true → w′ ≤ 32 → s′ < 2 ^ w′ → edgeFits nodes kind u v w′ s′ ≡ true

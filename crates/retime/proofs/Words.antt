@@ -2,7 +2,6 @@
 --   sum-same            a sum depends on what is summed
 --   word-fits           a word of so many bits has no bit at or above them
 --   word-bit            bit k of the word is start value k
---   word-is             it is the only such word
 -- Assumes nothing.
 use Prim.Native.Nat.{ℕ, zero, suc, _+_, _*_, _^_, _/_, _%_, _-_, _<_, _≤_}
 use native.Mathlib.Omega.{arith}
@@ -10,7 +9,7 @@ use native.Mathlib.Nat.{pow-suc, mul-assoc, add-comm, add-mul-div-right, add-mul
 use native.Mathlib.Decide.{ℕ-discrete}
 use mathlib.Core.Path.{_≡_, refl, sym, ap, ap₂, _∙_}
 use lib.Arith.{digits-lt}
-use lib.Pow.{pow-pos, pow-add, high, mod-pow-add}
+use lib.Pow.{pow-pos, pow-add, high}
 use Rattle.theory.specs.Move.{sum}
 use Rattle.netlist.specs.Net.{bit}
 use Rattle.retime.specs.Retime.{wordOf}
@@ -31,12 +30,6 @@ bit-below word x d k =
 bit-top : (word x k : ℕ) → word < 2 ^ k → x ≤ 1 → bit (word + x * 2 ^ k) k ≡ x
 bit-top word x k h l = ap (λ n. bit n k) (add-comm word (x * 2 ^ k)) ∙ ap (λ y. y % 2) (high x k h) ∙ mod-eq-of-lt (omega arith)
 
--- The word of a word's lowest n bits.
-word-of-bits : (w n : ℕ) → wordOf (bit w) n ≡ w % 2 ^ n
-unfolding sum
-word-of-bits w zero = omega arith
-word-of-bits w (suc n) = omega (arith, word-of-bits w n, mod-pow-add w 1 n, ap (λ m. w % 2 ^ m) (let e : suc n ≡ 1 + n = omega arith in e))
-
 module _ (start : ℕ → ℕ) where
   pub word-fits : (n : ℕ) → ((k : ℕ) → k < n → start k ≤ 1) → wordOf start n < 2 ^ n
   unfolding sum
@@ -56,7 +49,3 @@ module _ (start : ℕ → ℕ) where
           let d = n - suc k in
           let p : n ≡ suc d + k = omega arith in
           ap (λ m. bit (wordOf start n + start n * 2 ^ m) k) p ∙ bit-below (wordOf start n) (start n) d k ∙ r (omega arith)
-
-  -- A word that has these bits, and no others, is the word of them.
-  pub word-is : (n w : ℕ) → w < 2 ^ n → ((k : ℕ) → k < n → bit w k ≡ start k) → wordOf start n ≡ w
-  word-is n w h b = sum-same (λ k. start k * 2 ^ k) (λ k. bit w k * 2 ^ k) n (λ k l. ap (λ x. x * 2 ^ k) (sym (b k l))) ∙ word-of-bits w n ∙ mod-eq-of-lt h

@@ -1,5 +1,5 @@
 -- Lags as labels: label = 16,384 + lag, so that all are natural numbers.
---   lagOf, lagsOf       the lag of a label; the lags of a list of labels
+--   lagsOf              the lags of a list of labels
 --   Labelled            labels of a legal retiming
 --   countAt, Counts     the new counts
 --   Wide                the lowest count above 32, or that there is none
@@ -8,7 +8,7 @@
 use mathlib.Core.Path.{_≡_}
 use mathlib.Core.List.{List}
 use Prim.Native.Nat.{ℕ, _<_, _≤_}
-use lib.IntN.{ℤ, pos, _-ℤ_}
+use lib.IntN.{ℤ}
 use lib.ListN.{length}
 use Rattle.theory.specs.Lag.{newCount, Legal}
 use Rattle.theory.specs.Move.{sum, chosenOn}
@@ -16,9 +16,7 @@ use Rattle.graph.specs.Columns.{at}
 use Rattle.netlist.specs.declared.Netlist.{Netlist}
 use Rattle.netlist.specs.Net.{graphOf, regsOf}
 use Rattle.netlist.specs.Theorems.{Fit}
-
-unfoldable pub lagOf : ℕ → ℤ
-lagOf l = pos l -ℤ pos 16384
+use Rattle.lags.specs.Lags.{lagOf}
 
 abbrev pub lagsOf : List ℕ → ℕ → ℤ
 lagsOf lab v = lagOf (at lab v)

@@ -9,3 +9,6 @@ pub mod Labels
 pub mod Numbers
 pub mod Sources
 pub mod Wants
+pub mod Moves
+pub mod Wires
+pub mod Starts

@@ -1,4 +1,5 @@
 // The program of a moved netlist: a cell for each node of positive lag and each clock below its lag.
+// Private to the crate: `choose` puts them together.
 use crate::counts::up_of;
 use graph::by_rank;
 use netlist::Netlist;
@@ -13,6 +14,7 @@ ghost use Rattle.retime.specs.Numbers.{lagAt, Arranged, Numbered};
 ghost use Rattle.retime.specs.Sources.{sourceAt, Shows, Appended, widthAt, Ready, Operands};
 ghost use Rattle.retime.specs.Wants.{mergeOf, Celled, EdgeWants, Wants};
 ghost use Rattle.retime.specs.Labels.{Labelled, Counts};
+ghost use Rattle.retime.specs.Starts.{Filled, none};
 ghost use Rattle.theory.specs.Walk.{Loop};
 ghost use Rattle.graph.specs.Sort.{Ordered};
 ghost use Rattle.netlist.specs.Net.{graphOf, regsOf};
@@ -49,7 +51,13 @@ fn number_clock(
 }
 
 // All cells are numbered: how many there are.
-fn number_cells(order: &[u16], lab: &[u32], nodes: usize, id: &mut [u16], code: &mut [u16]) -> usize
+pub fn number_cells(
+    order: &[u16],
+    lab: &[u32],
+    nodes: usize,
+    id: &mut [u16],
+    code: &mut [u16],
+) -> usize
     requires { ⌜ Arranged (now order) nodes × (nodes ≤ length (now lab)) ⌝ }
     requires { ⌜ ((v : ℕ) → v < nodes → lagAt (now lab) v ≤ 24) ⌝ }
     requires { ⌜ (length (now id) ≡ 16384) × (length (now code) ≡ 12288) ⌝ }
@@ -65,7 +73,7 @@ fn number_cells(order: &[u16], lab: &[u32], nodes: usize, id: &mut [u16], code: 
 }
 
 // The kinds of the cells: those of their nodes.
-fn kinds_of(kind: &[u8], code: &[u16], cells: usize) -> [u8; 12288]
+pub fn kinds_of(kind: &[u8], code: &[u16], cells: usize) -> [u8; 12288]
     requires { ⌜ (cells ≤ 12288) × (cells ≤ length (now code)) ⌝ }
     requires { ⌜ ((i : ℕ) → i < cells → at (now code) i / 32 < length (now kind)) ⌝ }
     ensures { λ r. ⌜ ((i : ℕ) → i < cells → at r i ≡ at (now (kind .entry)) (at (now (code .entry)) i / 32)) ⌝ }
@@ -124,7 +132,7 @@ fn append_sources(
 }
 
 // The operands of all cells, one cell after the other; `first[i]` is where those of cell i begin, for i up to `cells`.
-fn operands_of(
+pub fn operands_of(
     from: &[u16],
     ins: &[u16],
     begin: &[u16],
@@ -194,9 +202,9 @@ fn want_edge(
 }
 
 // The new counts as bytes.
-fn bytes_of(counts: &[u32], edges: usize) -> [u8; 1024]
+pub fn bytes_of(counts: &[u32], edges: usize) -> [u8; 1024]
     requires { ⌜ (edges ≤ 1024) × (edges ≤ length (now counts)) × ((e : ℕ) → e < edges → at (now counts) e ≤ 32) ⌝ }
-    ensures { λ r. ⌜ ((e : ℕ) → e < edges → at r e ≡ at (now (counts .entry)) e) ⌝ }
+    ensures { λ r. ⌜ Filled (at (now (counts .entry))) none edges r ⌝ }
 {
     let mut bytes = [0u8; 1024];
     let mut e = 0;
@@ -208,7 +216,7 @@ fn bytes_of(counts: &[u32], edges: usize) -> [u8; 1024]
 }
 
 // The nodes in evaluation order of the moved netlist.
-fn order_of(net: Netlist, lab: &[u32], counts: &[u32]) -> [u16; 512]
+pub fn order_of(net: Netlist, lab: &[u32], counts: &[u32]) -> [u16; 512]
     requires { ⌜ Labelled net (now lab) × Counts net (now lab) (now counts) × (net .edges ≤ length (now counts)) ⌝ }
     requires { ⌜ ((e : ℕ) → e < net .edges → at (now counts) e ≤ 32) ⌝ }
     requires { ⌜ ¬ Loop (graphOf net) (regsOf net .count) ⌝ }
@@ -221,7 +229,7 @@ fn order_of(net: Netlist, lab: &[u32], counts: &[u32]) -> [u16; 512]
 }
 
 // What all edges want.
-fn wants_of(net: Netlist, lab: &[u32], cells: usize, id: &[u16], code: &[u16]) -> [u8; 12288]
+pub fn wants_of(net: Netlist, lab: &[u32], cells: usize, id: &[u16], code: &[u16]) -> [u8; 12288]
     requires { ⌜ Labelled net (now lab) × Celled (lagAt (now lab)) (net .nodes) cells (now id) (now code) × (length (now id) ≡ 16384) ⌝ }
     ensures { λ r. ⌜ Wants net (lagAt (now (lab .entry))) (now (id .entry)) r (net .edges) ⌝ }
 {

@@ -1,11 +1,13 @@
 // The counts of the moved netlist, and how many of its start values are chosen.
+// Private to the crate: `retime` comes here with the labels of the least retiming.
 use netlist::Netlist;
 ghost use mathlib.Core.Path.{_≡_};
 ghost use Prim.Native.Nat.{ℕ, _+_, _≤_, _<_, min};
 ghost use lib.ListN.{length};
 ghost use Rattle.theory.specs.Lag.{up};
 ghost use Rattle.graph.specs.Columns.{at};
-ghost use Rattle.retime.specs.Labels.{lagOf, Labelled, Counts, Wide, Bases};
+ghost use Rattle.lags.specs.Lags.{lagOf};
+ghost use Rattle.retime.specs.Labels.{Labelled, Counts, Wide, Bases};
 
 // A label is 16,384 and the lag.
 const BIAS: u32 = 16384;

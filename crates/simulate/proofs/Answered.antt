@@ -36,7 +36,7 @@ use Rattle.simulate.proofs.Clock.{start-fits, words-fit, output-length,
 use Rattle.simulate.proofs.Ran.{reads-zero, reads-steppable}
 use Rattle.simulate.proofs.theorems.Pins.{has-pins}
 
-says-refused : (a : Answer) {q : ℕ} {p : Place} → a ≡ Refused q p → (k l : ℕ) × (says a ≡ refused q k l)
+pub says-refused : (a : Answer) {q : ℕ} {p : Place} → a ≡ Refused q p → (k l : ℕ) × (says a ≡ refused q k l)
 says-refused (Done n) e = clash (cc)
 says-refused (Refused q Whole) e = (0, 0, cc)
 says-refused (Refused q (Line n)) e = (1, n, cc)

@@ -4,7 +4,7 @@
 --   fan-few                    a node has eight in-edges at most
 --   plan-evaluable             the columns of a plan can be evaluated
 --   Right, right-more          the signals of the inputs, of the plan's first n nodes and of the registers are right; one node more
---   right-values               after all of them, each node's signal is its value
+--   right-values, right-shows  after all of them, each node's signal is its value, and the registers show what they did
 -- Assumes nothing.
 use Prim.Native.Nat.{ℕ, zero, suc, _+_, _-_, _<_, _≤_}
 use native.Mathlib.Omega.{arith}
@@ -250,16 +250,19 @@ module _ (net : Netlist) (p : Plan) (plan : Planned net p) (ok : Steppable net) 
         right-more (evaluated (p .node) (p .first) (p .sees) (p .truth) n sig) n (evaluated-length (p .node) (p .first) (p .sees) (p .truth) sig n ∙ l) (omega arith)
         (right-all sig l r n (omega arith))
 
+    right-end : (sig : List ℕ) → length sig ≡ 1536 → Right sig 0 → Right (evaluated (p .node) (p .first) (p .sees) (p .truth) (p .gates) sig) (p .gates)
+    right-end sig l r = right-all sig l r (p .gates) (omega arith)
+
     -- Each node is an input or in the plan.
     pub right-values : (sig : List ℕ) → length sig ≡ 1536 → Right sig 0
         → (v : ℕ) → v < net .nodes → at (evaluated (p .node) (p .first) (p .sees) (p .truth) (p .gates) sig) v ≡ now v
     right-values sig l r v h = go (ℕ-discrete (at (net .kind) v) 0)
       where
-        end : Right (evaluated (p .node) (p .first) (p .sees) (p .truth) (p .gates) sig) (p .gates)
-        end = right-all sig l r (p .gates) (omega arith)
-
         go : Dec (at (net .kind) v ≡ 0) → at (evaluated (p .node) (p .first) (p .sees) (p .truth) (p .gates) sig) v ≡ now v
-        go (yes q) = end .inputs v h q
+        go (yes q) = right-end sig l r .inputs v h q
         go (no q) =
             let w = plan .every v h q in
-            subst (λ u. at (evaluated (p .node) (p .first) (p .sees) (p .truth) (p .gates) sig) u ≡ now u) (w .2) (end .done (w .0) (w .1))
+            subst (λ u. at (evaluated (p .node) (p .first) (p .sees) (p .truth) (p .gates) sig) u ≡ now u) (w .2) (right-end sig l r .done (w .0) (w .1))
+
+    pub right-shows : (sig : List ℕ) → length sig ≡ 1536 → Right sig 0 → Shows net words (evaluated (p .node) (p .first) (p .sees) (p .truth) (p .gates) sig)
+    right-shows sig l r = right-end sig l r .shows

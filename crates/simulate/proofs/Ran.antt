@@ -1,18 +1,23 @@
 -- Clocks in a row: one clock by what `clock` does, and the loop over the vectors.
 --   reads-zero, reads-steppable    reading says 0; a netlist that reads can be stepped
 --   net-movable         its words can be moved on
---   clock-right         what `clock` does is one clock: outputs, words
+--   ReadyFor, ClockedBy     what `clock` asks and does, with a plan's columns and a netlist's
+--   clock-ready         what it asks is there
+--   clock-puts, clock-leaves, clock-shows    what it does is one clock: outputs, words, what each edge shows
+--   clock-size, clock-bits    its signals are as many as before, and bits
 --   Running, running-start, running-ready, running-turn, running-end    the loop
 -- Assumes nothing.
 use Prim.Native.Nat.{ℕ, suc, _+_, _-_, _*_, _<_, _≤_}
 use native.Mathlib.Omega.{arith}
 use native.Mathlib.Nat.{suc-mul, mul-le-mul-right}
 use native.Mathlib.Numerals.{add-one}
+use native.Mathlib.Decide.{ℕ-discrete}
 use mathlib.Core.Path.{_≡_, refl, sym, ap, ap₂, _∙_, subst}
-use mathlib.Core.Bool.{true}
+use mathlib.Core.Bool.{true, cond}
 use mathlib.Core.List.{List, [], _∷_, _++_, append-assoc, append-nil}
 use lib.ListN.{length, take, drop, length-append, replicate}
 use lib.Seq.{sets, length-sets, getD-take, getD-drop, drop-drop}
+use borrow.Author.Tests.{eq-eqb, ne-eqb}
 use Rattle.frame.proofs.Laws.{sets-sets}
 use Rattle.theory.proofs.clocks.Seen.{gather-same}
 use Rattle.graph.specs.Columns.{at}
@@ -30,13 +35,13 @@ use Rattle.simulate.specs.declared.plan.Plan.{Plan}
 use Rattle.simulate.specs.Clock.{before, inputs, outputs, byteOf, values, outputValues, moved-on, wordsAfter}
 use Rattle.simulate.specs.Step.{bits}
 use Rattle.simulate.specs.Run.{clocksFrom}
-use Rattle.simulate.specs.Plan.{Planned}
+use Rattle.simulate.specs.Plan.{signal, Planned}
 use Rattle.simulate.specs.Signals.{Bits, Evaluable, movedOn, Movable, Ready, Clocked}
 use Rattle.simulate.specs.Ran.{Steppable, Runnable, wordsFrom, Ran}
 use Rattle.simulate.proofs.Lists.{before-less, bits-at, bits-take, bits-drop}
-use Rattle.simulate.proofs.Clock.{Fits, fit-words, fits-after, value-input, output-length}
+use Rattle.simulate.proofs.Clock.{shown, shown-none, shown-some, Fits, fit-words, fits-after, value-input, output-length}
 use Rattle.simulate.proofs.Signals.{evaluated-length, evaluated-bits, moved-length}
-use Rattle.simulate.proofs.Evaluated.{plan-evaluable, Right, right-values}
+use Rattle.simulate.proofs.Evaluated.{plan-evaluable, Right, right-values, right-shows}
 
 -- Reading puts nothing out.
 pub reads-zero : {t : List ℕ} {n : ℕ} {net : Netlist} → Reads t (value n) net → n ≡ 0
@@ -69,13 +74,32 @@ net-movable net ok rows words l f =
     }
 
 -- The plan's columns and the netlist's, as `clock` takes them.
-abbrev ReadyFor : Netlist → Plan → List ℕ → ℕ → List ℕ → List ℕ → List ℕ → ℕ → Type 0
+abbrev pub ReadyFor : Netlist → Plan → List ℕ → ℕ → List ℕ → List ℕ → List ℕ → ℕ → Type 0
 ReadyFor net p vectors enter sig words out leave =
     Ready (p .node) (p .first) (p .sees) (p .truth) (p .ones) (p .gates) (net .kind) (net .from) (net .count) (net .nodes) (net .edges) vectors enter sig words out leave
 
-abbrev ClockedBy : Netlist → Plan → List ℕ → ℕ → List ℕ → List ℕ → List ℕ → ℕ → List ℕ → List ℕ → List ℕ → Type 0
+abbrev pub ClockedBy : Netlist → Plan → List ℕ → ℕ → List ℕ → List ℕ → List ℕ → ℕ → List ℕ → List ℕ → List ℕ → Type 0
 ClockedBy net p vectors enter sig words out leave sig′ words′ out′ =
     Clocked (p .node) (p .first) (p .sees) (p .truth) (p .gates) (net .kind) (net .from) (net .count) (net .nodes) (net .edges) vectors enter sig words out leave sig′ words′ out′
+
+pub clock-ready : (net : Netlist) (p : Plan) → Planned net p → Steppable net
+    → (length (p .node) ≡ 512) × (length (p .first) ≡ 513) × (length (p .sees) ≡ 1024) × (length (p .truth) ≡ 512) × (length (p .ones) ≡ 256)
+    → (length (net .kind) ≡ 512) × (length (net .from) ≡ 1024) × (length (net .count) ≡ 1024)
+    → (vectors : List ℕ) (enter : ℕ) → enter + inputs net ≤ length vectors → Bits vectors → (sig : List ℕ) → length sig ≡ 1536 → Bits sig
+    → (words : List ℕ) → length words ≡ 1024 → Fits net words → (out : List ℕ) (leave : ℕ) → leave + outputs net ≤ length out
+    → ReadyFor net p vectors enter sig words out leave
+unfolding before
+clock-ready net p plan ok prows rows vectors enter vector-in vector-bits sig size sig-bits words words-size fits out leave room =
+    let f = head-fits (net .period) (net .derate) (net .nodes) (net .edges) (ok .fit .head) in record {
+      evaluable = subst (λ s. Evaluable (p .node) (p .first) (p .sees) (p .truth) (p .ones) (p .gates) s) (sym size) (plan-evaluable net p plan ok prows);
+      movable = subst (λ s. Movable (net .from) (net .count) (net .edges) words s) (sym size) (net-movable net ok (rows .1, rows .2) words words-size fits);
+      in-kind = omega (arith, rows .0, f .2);
+      in-sig = (omega (arith, f .2), omega (arith, f .3));
+      in-vectors = vector-in;
+      in-out = room;
+      vector-bits = vector-bits;
+      sig-bits = sig-bits;
+    }
 
 module _ (net : Netlist) (p : Plan) (plan : Planned net p) (ok : Steppable net) (words vector : List ℕ) (b : bits vector ≡ true) where
   module _ {vectors : List ℕ} {enter : ℕ} {sig out : List ℕ} {leave : ℕ} {sig′ words′ out′ : List ℕ} (size : length sig ≡ 1536)
@@ -105,6 +129,19 @@ module _ (net : Netlist) (p : Plan) (plan : Planned net p) (ok : Steppable net) 
         ∙ ap (λ l. l ++ drop (net .edges) words)
         (joined-same _ _ (net .edges)
         (λ e h. ap (λ x. moved-on (at (net .count) e) (at words e) x ∷ []) (ends (at (net .from) e) (fit-wired net (ok .fit) .src-in e h))))
+
+    -- Its source's signal, or with its own register.
+    pub clock-shows : (e : ℕ) → e < net .edges → at sig′ (signal net e) ≡ shown net words (values net words vector) e
+    clock-shows e h = go (ℕ-discrete (at (net .count) e) 0)
+      where
+        go : Dec (at (net .count) e ≡ 0) → at sig′ (signal net e) ≡ shown net words (values net words vector) e
+        go (yes z) =
+            ap (λ t. at sig′ (cond t (at (net .from) e) (512 + e))) (eq-eqb (at (net .count) e) 0 z)
+            ∙ ends (at (net .from) e) (fit-wired net (ok .fit) .src-in e h) ∙ sym (shown-none net words (values net words vector) e z)
+        go (no z) =
+            ap (λ t. at sig′ (cond t (at (net .from) e) (512 + e))) (ne-eqb (at (net .count) e) 0 z)
+            ∙ ap (λ s. at s (512 + e)) (c .evaluates) ∙ right-shows net p plan ok words vector b (c .shown) (c .size ∙ size) starts e h
+            ∙ sym (shown-some net words (values net words vector) e (omega arith))
 
     pub clock-size : length sig′ ≡ 1536
     clock-size = ap length (c .evaluates) ∙ evaluated-length (p .node) (p .first) (p .sees) (p .truth) (c .shown) (p .gates) ∙ c .size ∙ size
@@ -178,21 +215,9 @@ module _ (net : Netlist) (n : ℕ) (words₀ vectors old : List ℕ) (ask : Runn
     pub running-ready : (length (p .node) ≡ 512) × (length (p .first) ≡ 513) × (length (p .sees) ≡ 1024) × (length (p .truth) ≡ 512) × (length (p .ones) ≡ 256)
         → (length (net .kind) ≡ 512) × (length (net .from) ≡ 1024) × (length (net .count) ≡ 1024)
         → ReadyFor net p vectors enter sig words out leave
-    unfolding before
     running-ready prows rows =
-        let f = head-fits (net .period) (net .derate) (net .nodes) (net .edges) (ask .steppable .fit .head) in record {
-          evaluable =
-              subst (λ s. Evaluable (p .node) (p .first) (p .sees) (p .truth) (p .ones) (p .gates) s) (sym (r .sig-size)) (plan-evaluable net p plan (ask .steppable) prows);
-          movable =
-              subst (λ s. Movable (net .from) (net .count) (net .edges) words s) (sym (r .sig-size))
-              (net-movable net (ask .steppable) (rows .1, rows .2) words (r .words-size) (r .fits));
-          in-kind = omega (arith, rows .0, f .2);
-          in-sig = (omega (arith, r .sig-size, f .2), omega (arith, r .sig-size, f .3));
-          in-vectors = vector-in;
-          in-out = omega (arith, outputs-in, ap length (r .puts), length-sets old 0 (r .done));
-          vector-bits = λ k. bits-at vectors k (ask .vector-bits);
-          sig-bits = r .sig-bits;
-        }
+        clock-ready net p plan (ask .steppable) prows rows vectors enter vector-in (λ k. bits-at vectors k (ask .vector-bits)) sig (r .sig-size) (r .sig-bits)
+        words (r .words-size) (r .fits) out leave (omega (arith, outputs-in, ap length (r .puts), length-sets old 0 (r .done)))
 
     abbrev vector : List ℕ
     vector = take (inputs net) (drop enter vectors)

@@ -1,5 +1,4 @@
 -- A word that moves down a bit and takes a value at the top: over the count, whatever it is.
---   bit-first           bit 0 says whether the word is odd
 --   moved-some          what it becomes where the count is above 0
 --   moved-low           below the top, each bit is the one that stood above it
 --   moved-top           the top bit is the value
@@ -7,16 +6,13 @@
 -- Assumes nothing.
 use Prim.Native.Nat.{ℕ, zero, suc, _+_, _-_, _*_, _^_, _/_, _%_, _<_, _≤_}
 use native.Mathlib.Omega.{arith}
-use native.Mathlib.Nat.{pow-suc, mul-assoc, add-comm, add-mul-div-right, add-mul-mod-self-right, mod-eq-of-lt, div-one}
+use native.Mathlib.Nat.{pow-suc, mul-assoc, add-comm, add-mul-div-right, add-mul-mod-self-right, mod-eq-of-lt}
 use mathlib.Core.Path.{_≡_, refl, sym, ap, _∙_, subst}
 use borrow.Author.Tests.{ne-eqb}
 use lib.Arith.{digits-lt}
 use lib.Pow.{pow-pos, pow-add, shr-lt, shr-shr, high}
 use Rattle.netlist.specs.Net.{bit}
 use Rattle.simulate.specs.Clock.{moved-on}
-
-pub bit-first : (word : ℕ) → bit word 0 ≡ word % 2
-bit-first word = simp div-one
 
 pub moved-some : (w k word x : ℕ) → suc k ≡ w → moved-on w word x ≡ word / 2 + x * 2 ^ k
 moved-some w k word x e = rw (ne-eqb w 0 (omega arith)) (ap (λ n. word / 2 + x * 2 ^ n) (omega arith))

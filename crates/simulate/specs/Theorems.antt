@@ -86,7 +86,7 @@ byteAt net vectors v k = getD vectors (k * inputs net + before net 0 v) 0
 -- A run puts out the trace's values.
 abbrev pub RunIsTrace : Type 0
 RunIsTrace = (t : List ℕ) (net : Netlist) (n : ℕ) (vectors : List ℕ) (x : ℕ → ℕ → ℕ)
-    → Reads t (value 0) net → length vectors ≡ n * inputs net → bits vectors ≡ true
+    → Reads t (value 0) net → bits vectors ≡ true
     → Trace gate (graphOf net) (regsOf net) (byteAt net vectors) x
     → clocksFrom net n (net .start) vectors ≡ joined (λ k. gather (graphOf net .kind) (λ v. x v k) 1 (net .nodes)) n
 

@@ -1,4 +1,5 @@
 // Rule 13, and how many inputs and outputs there are.
+// Required: a netlist that passed the rules, which `run` and `step` check first.
 ghost use mathlib.Core.Path.{_≡_};
 ghost use mathlib.Core.List.{[], _∷_};
 ghost use Prim.Native.Nat.{_≤_};

@@ -1,4 +1,5 @@
 // A gate's values: "inputs gathered in one word; ones counted decide AND, OR, XOR and inverses".
+// Private to the crate: only gates of a netlist that passed the rules come here.
 ghost use mathlib.Core.Path.{_≡_};
 ghost use Prim.Native.Nat.{ℕ, _-_, _<_, _≤_, min};
 ghost use lib.Count.{ones};

@@ -1,12 +1,15 @@
 // Clocks: stepping a netlist record, and running a text. The promises are in specs/: Clock, Step, Run, Theorems.
 mod checks;
-mod clocks;
+// For retiming, which steps the original: the plan of a netlist, and one clock by it. Internal: both have `requires`.
+pub mod clocks;
 mod gates;
 mod plan;
 mod running;
 mod stepping;
 
 use netlist::Answer;
+pub use plan::Plan;
+pub use plan::plan_of;
 pub use running::run;
 pub use stepping::step;
 pub use stepping::step_in_place;

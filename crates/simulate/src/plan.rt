@@ -1,4 +1,5 @@
 // The evaluation plan, made once per netlist.
+// Required: a netlist that passed the rules, which `run`, `step` and retiming check first.
 use crate::gates::ones_table;
 use crate::gates::truth_of;
 use graph::by_rank;

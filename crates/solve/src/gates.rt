@@ -1,4 +1,5 @@
 // A gate's values: the ones counted decide AND, OR, XOR and inverses.
+// Private to the crate: `solve` hands on the right program that it asks for.
 ghost use mathlib.Core.Path.{_≡_};
 ghost use Prim.Native.Nat.{ℕ, _-_, _<_, _≤_, min};
 ghost use Rattle.theory.specs.Gate.{gateBy};

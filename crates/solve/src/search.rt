@@ -1,4 +1,5 @@
 // The search over sorted cells.
+// Private to the crate: `solve` hands on the right program that it asks for.
 use crate::Choice;
 use crate::gates::truths;
 ghost use mathlib.Core.Path.{_≡_};

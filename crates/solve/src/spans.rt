@@ -1,4 +1,5 @@
 // How many leading bits of the choice each cell hangs on.
+// Private to the crate: `solve` hands on the right program that it asks for.
 ghost use mathlib.Core.Path.{_≡_};
 ghost use Prim.Native.Nat.{ℕ, _-_, _≤_, _<_};
 ghost use lib.ListN.{length};

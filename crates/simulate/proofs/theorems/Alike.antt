@@ -43,8 +43,8 @@ module _ (t t′ : List ℕ) (net net′ : Netlist) (r : Reads t (value 0) net) 
     byte-like v k h = ap₂ (λ i b. getD vectors (k * i + b) 0) (all-like 0) (before-like 0 v (omega arith))
 
     -- Both runs put out their traces' values.
-    clocks-like : (n : ℕ) → length vectors ≡ n * inputs net → bits vectors ≡ true → clocksFrom net n (net .start) vectors ≡ clocksFrom net′ n (net′ .start) vectors
-    clocks-like n l b =
+    clocks-like : (n : ℕ) → bits vectors ≡ true → clocksFrom net n (net .start) vectors ≡ clocksFrom net′ n (net′ .start) vectors
+    clocks-like n b =
         let X = trace-exists t net (byteAt net vectors) r in
         let Y = trace-exists t′ net′ (byteAt net vectors) r′ in
         let x = X .0 in
@@ -54,13 +54,13 @@ module _ (t t′ : List ℕ) (net net′ : Netlist) (r : Reads t (value 0) net) 
         let out : (k : ℕ) → gather (graphOf net .kind) (λ v. x v k) 1 (net .nodes) ≡ gather (graphOf net′ .kind) (λ v. y v k) 1 (net′ .nodes) =
         λ k. gather-like (graphOf net .kind) (graphOf net′ .kind) (λ v. x v k) (λ v. y v k) 1 (net .nodes) kinds (λ v h q. agree (byteAt net vectors) x y (X .1) (Y .1) v k h q)
         ∙ ap (gather (graphOf net′ .kind) (λ v. y v k) 1) nodes in
-        run-is-trace t net n vectors x r l b (X .1) ∙ joined-same _ _ n (λ k h. out k) ∙ sym (run-is-trace t′ net′ n vectors y r′ (l ∙ ap (λ i. n * i) (all-like 0)) b Y′)
+        run-is-trace t net n vectors x r b (X .1) ∙ joined-same _ _ n (λ k h. out k) ∙ sym (run-is-trace t′ net′ n vectors y r′ b Y′)
 
     buffer-like : (s : Says) (old : List ℕ) → s ≡ runSays net vectors (length old)
         → holds s (clocksFrom net (clocks net vectors) (net .start) vectors) old ≡ holds s (clocksFrom net′ (clocks net′ vectors) (net′ .start) vectors) old
     buffer-like (value o) old q =
         let g = run-goes net vectors (length old) o q in
-        ap (λ l. holds (value o) l old) (clocks-like (clocks net vectors) (g .whole-vectors) (g .vector-bits) ∙ ap (λ i. clocksFrom net′ (length vectors / i) (net′ .start) vectors) (all-like 0))
+        ap (λ l. holds (value o) l old) (clocks-like (clocks net vectors) (g .vector-bits) ∙ ap (λ i. clocksFrom net′ (length vectors / i) (net′ .start) vectors) (all-like 0))
     buffer-like (refused q k p) old e = refl
 
 -- The same bytes are refused, as there are as many inputs and outputs. Where nothing is refused, both runs put out their traces' values, and these agree.

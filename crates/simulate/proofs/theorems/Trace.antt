@@ -115,6 +115,6 @@ module _ (net : Netlist) (wired : Wired (graphOf net)) (no-loop : ¬ Loop (graph
 
 -- The words before each clock hold what their edges will show, bit by bit (`run-steps`), so the run is the theory's machine, and that runs through the trace.
 pub run-is-trace : RunIsTrace
-run-is-trace t net n vectors x r l b X =
+run-is-trace t net n vectors x r b X =
     let s = read-is-sound t net r in
     clocks-trace net (s .wired) (s .no-loop) (start-fits net (lines-fact t net .0 (reads-value r .0) .0)) vectors b x X n

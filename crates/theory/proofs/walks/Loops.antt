@@ -1,8 +1,8 @@
--- Loops without a register: how to find one, how to see that there is none, and that a long walk without a register holds one.
+-- Loops without a register: how to see that there is none, and that a long walk without a register holds one.
 -- Assumes nothing.
 use Prim.Native.Nat.{ℕ, zero, suc, _+_, _≤_, _<_}
 use native.Mathlib.Omega.{arith}
-use native.Mathlib.Decide.{le-ind, decLt}
+use native.Mathlib.Decide.{decLt}
 use mathlib.Core.Path.{_≡_, refl, sym, subst}
 use Rattle.theory.specs.Graph.{Graph, Wired}
 use Rattle.theory.specs.Walk.{Walk, one, more, registers, steps, Loop}
@@ -36,42 +36,6 @@ closed : {G : Graph} {count : ℕ → ℕ} {u v n : ℕ} → Bare G count u v n 
 closed {G} {count} {u} {v} {n} w q m =
     let c : Bare G count v v n = subst (λ x. Bare G count x v n) q w in
     record { node = v; walk = c .walk; moves = omega (arith, c .long); bare = c .bare }
-
--- An edge without registers into v, from a node of the set S.
-pub record Back (G : Graph) (count : ℕ → ℕ) (S : ℕ → Type 0) (v : ℕ) : Type 0 where
-  pub edge : ℕ
-  pub within : edge < G .edges
-  pub into : G .dst edge ≡ v
-  pub none : count edge ≡ 0
-  pub stays : S (G .src edge)
-
--- Where each member of a set of nodes has such an edge from the set, and the set has a member, there is a loop without a register.
-module _ {G : Graph} {count : ℕ → ℕ} (i : Wired G) (S : ℕ → Type 0) (node : (v : ℕ) → S v → v < G .nodes) (back : (v : ℕ) → S v → Back G count S v)
-    (v₀ : ℕ) (s₀ : S v₀) where
-  -- From v₀ backwards along those edges, n times.
-  member : ℕ → (v : ℕ) × S v
-  member zero = (v₀, s₀)
-  member (suc n) = let m = member n in let b = back (m .0) (m .1) in (G .src (b .edge), b .stays)
-
-  at : ℕ → ℕ
-  at n = member n .0
-
-  along : (j k : ℕ) → j ≤ k → (n : ℕ) × Bare G count (at k) (at j) n × (n + j ≡ k)
-  unfolding at member
-  along j k h =
-      le-ind (λ m. (n : ℕ) × Bare G count (at m) (at j) n × (n + j ≡ m))
-      (0, bare-one G count (at j) (node (at j) (member j .1)), omega arith)
-      (λ m l t.
-      let b = back (member m .0) (member m .1) in
-      (suc (t .0), bare-more i (b .edge) (at m) (at j) (t .0) (b .within) (b .into) (b .none) (t .1), omega (arith, t .2)))
-      k h
-
-  pub set-loop : Loop G count
-  unfolding at
-  set-loop =
-      let t = pigeonhole (G .nodes) at (λ n h. node (at n) (member n .1)) in
-      let w = along (t .i) (t .j) (omega arith) in
-      closed (w .1) (sym (t .same)) (omega (arith, w .2, t .before))
 
 -- Where the nodes can be numbered so that each edge without registers goes up, there is none.
 module _ {G : Graph} {count : ℕ → ℕ} (rank : ℕ → ℕ) (up : (e : ℕ) → e < G .edges → count e ≡ 0 → rank (G .src e) < rank (G .dst e)) where

@@ -1,26 +1,25 @@
--- `retime::cells::bytes_of` meets its contract: the bytes below e are filled.
+-- `retime::cells::bytes_of` meets its contract: the bytes below e are filled, the others are 0.
 -- Assumes nothing.
-use Prim.Native.Nat.{ℕ, _+_, _*_, _-_, _≤_, _<_}
-use mathlib.Core.Path.{_≡_, refl, sym, ap, ap₂, subst, _∙_}
-use mathlib.Core.Logic.{⊎-elim}
-use mathlib.Core.List.{List}
+use Prim.Native.Nat.{_-_, _≤_}
+use mathlib.Core.Path.{_≡_, refl, subst, _∙_}
 use native.Mathlib.Omega.{arith}
 use denote.Ref.{now}
 use lib.ListN.{length, length-set}
 use borrow.Author.Needs.{needs}
 use Rattle.graph.specs.Columns.{at}
-use Rattle.graph.proofs.Fills.{fill-more}
+use Rattle.retime.specs.Starts.{Filled, none}
+use Rattle.retime.proofs.Found.{filled-zeros, filled-more}
 use Rattle.retime.proofs.cells.bytes_of.Statement.{statement}
 use Rattle.retime.proofs.cells.bytes_of.Tie as tie
 
 abbrev Inv-loop : tie.InvT-loop
-Inv-loop counts edges bytes₀ e₀ bytes e = (e ≤ edges) × (length bytes ≡ 1024) × ((j : ℕ) → j < e → at bytes j ≡ at counts j)
+Inv-loop counts edges bytes₀ e₀ bytes e = (e ≤ edges) × (length bytes ≡ 1024) × Filled (at counts) none e bytes
 
 abbrev μ-loop : tie.MeasureT-loop
 μ-loop counts edges bytes₀ e₀ bytes e = edges - e
 
 loop-holds : tie.Need-loop-holds Inv-loop μ-loop
-loop-holds c = (omega arith, refl, λ j h. absurd (let z : ⊥ = omega arith in z))
+loop-holds c = (omega arith, refl, filled-zeros (at (now (c .args .counts))) 1024)
 
 mul-bytes : tie.Need-mul-bytes Inv-loop μ-loop
 mul-bytes c = search needs
@@ -46,11 +45,13 @@ loop-again c =
     let l = c .before .before .loop in (
       omega arith,
       length-set (l .bytes) (l .e) _ ∙ l .inv .1,
-      fill-more (at (now (a .counts))) (l .bytes) (l .e) _ (omega arith) refl (l .inv .2),
+      filled-more (at (now (a .counts))) none (l .bytes) (l .e) _ (omega arith) refl (l .inv .2),
     )
 
 returns : tie.Need-returns Inv-loop μ-loop
-returns c = λ j h. c .before .loop .inv .2 j (omega arith)
+returns c =
+    let l = c .before .loop in
+    subst (λ e. Filled (at (now (c .before .before .args .counts))) none e (l .bytes)) (let z : l .e ≡ c .before .before .args .edges = omega arith in z) (l .inv .2)
 
 pub bytes-of-spec : {M : Type 1} → statement M
 bytes-of-spec =

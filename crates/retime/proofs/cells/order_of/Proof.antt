@@ -34,14 +34,14 @@ by-rank-requires c κs =
     let s = c .before .before .before .before .before .before .before .before .before in
     let net = s .args .t1 in (
       (laid net (s .pre .0 .0 .fit) (search needs) (search needs), omega (arith, low-edges net (now (s .args .lab)) (s .pre .0 .0))),
-      moved-no-loop net (now (s .args .lab)) (now (s .args .counts)) (s .pre .0 .0) (s .pre .0 .1) (s .pre .1 .1) (c .before .before .before .before .before .before .bytes-of .result) (c .before .before .before .before .before .before .bytes-of .ensures),
+      moved-no-loop net (now (s .args .lab)) (now (s .args .counts)) (s .pre .0 .0) (s .pre .0 .1) (s .pre .1 .1) (c .before .before .before .before .before .before .bytes-of .result) (c .before .before .before .before .before .before .bytes-of .ensures .rows),
     )
 
 returns : tie.Need-returns
 returns c =
     let s = c .before .before .before .before .before .before .before .before .before .before in
     let net = s .args .t1 in
-    ordered-counts (net .nodes) (net .edges) (net .from) (net .to) _ (now (s .args .counts)) _ (c .before .before .before .before .before .before .before .bytes-of .ensures) (c .by-rank .ensures)
+    ordered-counts (net .nodes) (net .edges) (net .from) (net .to) _ (now (s .args .counts)) _ (c .before .before .before .before .before .before .before .bytes-of .ensures .rows) (c .by-rank .ensures)
 
 pub order-of-spec : {M : Type 1} → statement M
 order-of-spec =

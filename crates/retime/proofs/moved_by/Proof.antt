@@ -1,0 +1,149 @@
+-- `retime::moved_by` meets its contract.
+-- Assumes nothing.
+use Prim.Native.Nat.{ℕ, _^_, _≤_, _<_}
+use mathlib.Core.Path.{_≡_, refl, sym, ap, subst, _∙_}
+use native.Mathlib.Omega.{arith}
+use borrow.Author.Needs.{needs}
+use borrow.Author.Tests.{not-true, not-false}
+use denote.Ref.{now}
+use lib.ListN.{length, getD}
+use Rattle.graph.specs.Columns.{at}
+use Rattle.netlist.specs.Answer.{value}
+use Rattle.netlist.specs.Net.{graphOf, regsOf}
+use Rattle.theory.specs.Gate.{gate}
+use Rattle.theory.specs.Move.{chosenIn, Best}
+use Rattle.theory.specs.Retimer.{Narrow, TooMany}
+use Rattle.retime.specs.Labels.{lagsOf}
+use Rattle.retime.specs.Moves.{Moving, Chooses, wide, many, startless, moved}
+use Rattle.retime.proofs.Labels.{low-edges, wide-edge, wide-none}
+use Rattle.retime.proofs.moved_by.Statement.{statement}
+use Rattle.retime.proofs.moved_by.Tie as tie
+
+count-rows : (c : tie.After-new-counts) → c .before .before .before .args .net .edges ≤ length (c .new-counts .result)
+count-rows c = omega (arith, low-edges _ _ (c .before .before .before .pre .3))
+
+low-counts : (c : tie.Else1) → (e : ℕ) → e < c .before .before .before .before .before .before .args .net .edges → at (c .before .before .before .new-counts .result) e ≤ 32
+low-counts c e h = c .before .too-wide .ensures .low e (omega (arith, c .if1 .left))
+
+narrow : (c : tie.Else1) → Narrow (graphOf (c .before .before .before .before .before .before .args .net)) (regsOf (c .before .before .before .before .before .before .args .net) .count) (lagsOf (now (c .before .before .before .before .before .before .args .lab)))
+narrow c = let s = c .before .before .before .before .before .before in wide-none (s .args .net) (now (s .args .lab)) (c .before .before .before .new-counts .result) (c .before .too-wide .result) (c .before .before .before .new-counts .ensures) (c .before .too-wide .ensures) (λ h. omega (arith, c .if1 .left))
+
+all-chosen : (c : tie.After-chosen) → getD (c .chosen .result) (c .before .before .before .before .before .before .before .before .args .net .edges) 0 ≡ chosenIn (graphOf (c .before .before .before .before .before .before .before .before .args .net)) (regsOf (c .before .before .before .before .before .before .before .before .args .net) .count) (lagsOf (now (c .before .before .before .before .before .before .before .before .args .lab)))
+all-chosen c = c .chosen .ensures _ (omega arith)
+
+few : (c : tie.Else2) → ¬ TooMany (graphOf (c .before .before .before .before .before .before .before .before .before .args .net)) (regsOf (c .before .before .before .before .before .before .before .before .before .args .net) .count) (lagsOf (now (c .before .before .before .before .before .before .before .before .before .args .lab)))
+few c h = omega (arith, all-chosen (c .before), c .if2 .left)
+
+moving : (c : tie.Else2) → Moving (c .before .before .before .before .before .before .before .before .before .args .net) (now (c .before .before .before .before .before .before .before .before .before .args .lab)) (c .before .before .before .before .before .before .new-counts .result) (c .before .chosen .result) (getD (c .before .chosen .result) (c .before .before .before .before .before .before .before .before .before .args .net .edges) 0)
+moving c =
+    let s = c .before .before .before .before .before .before .before .before .before in
+    record {
+      steppable = s .pre .0;
+      sure = s .pre .1;
+      sound = s .pre .2;
+      labelled = s .pre .3;
+      counted = c .before .before .before .before .before .before .new-counts .ensures;
+      count-rows = count-rows (c .before .before .before .before .before .before);
+      narrow = low-counts (c .before .before .before);
+      based = c .before .chosen .ensures;
+      base-rows = omega (arith, low-edges _ _ (s .pre .3));
+      chosen = refl;
+      few = omega (arith, c .if2 .left);
+    }
+
+best : (c : tie.Else3) → Best gate (graphOf (c .before .before .before .before .before .before .before .before .before .before .before .before .before .before .args .net)) (regsOf (c .before .before .before .before .before .before .before .before .before .before .before .before .before .before .args .net)) (lagsOf (now (c .before .before .before .before .before .before .before .before .before .before .before .before .before .before .args .lab))) (c .before .before .choose .result .choice)
+best c =
+    let s = c .before .before .before .before .before .before .before .before .before .before .before .before .before .before in
+    subst (λ b. Chooses (s .args .net) (lagsOf (now (s .args .lab))) b (c .before .before .choose .result .choice)) (not-false (c .before .before .choose .result .found) (c .if3 .left)) (c .before .before .choose .ensures)
+
+cast-edges : tie.Need-cast-edges
+cast-edges c = search needs
+
+new-counts-requires : tie.Need-new-counts-requires
+new-counts-requires c κs = search needs
+
+slice-aggregate-too-wide : tie.Need-slice-aggregate-too-wide
+slice-aggregate-too-wide c = search needs
+
+too-wide-requires : tie.Need-too-wide-requires
+too-wide-requires c κs = count-rows (c .before)
+
+cast-t13 : tie.Need-cast-t13
+cast-t13 c = search needs
+
+returns : tie.Need-returns
+returns c =
+    let s = c .before .before .before .before .before .before in
+    wide (c .before .too-wide .result) (wide-edge (s .args .net) (now (s .args .lab)) (c .before .before .before .new-counts .result) (c .before .too-wide .result) (c .before .before .before .new-counts .ensures) (c .before .too-wide .ensures) (c .if1 .taken)) refl
+
+slice-aggregate-chosen : tie.Need-slice-aggregate-chosen
+slice-aggregate-chosen c = search needs
+
+chosen-requires : tie.Need-chosen-requires
+chosen-requires c κs =
+    let n = c .before .before .before .before in
+    ((n .before .before .before .pre .3, n .new-counts .ensures, count-rows n), low-counts (c .before))
+
+mul-k : tie.Need-mul-k
+mul-k c = search needs
+
+array-read-k : tie.Need-array-read-k
+array-read-k c = omega (arith, low-edges _ _ (c .before .before .before .before .before .before .before .before .pre .3))
+
+returns-2 : tie.Need-returns-2
+returns-2 c = many (narrow (c .before .before .before)) (omega (arith, c .if2 .taken, all-chosen (c .before))) refl
+
+slice-aggregate-choose : tie.Need-slice-aggregate-choose
+slice-aggregate-choose c = search needs
+
+slice-aggregate-choose-2 : tie.Need-slice-aggregate-choose-2
+slice-aggregate-choose-2 c = search needs
+
+choose-requires : tie.Need-choose-requires
+choose-requires c κs = moving (c .before .before)
+
+returns-3 : tie.Need-returns-3
+returns-3 c =
+    let s = c .before .before .before .before .before .before .before .before .before .before .before .before .before .before in
+    startless (narrow (c .before .before .before .before .before .before .before .before)) (few (c .before .before .before .before .before)) (subst (λ b. Chooses (s .args .net) (lagsOf (now (s .args .lab))) b (c .before .before .choose .result .choice)) (not-true (c .before .before .choose .result .found) (c .if3 .taken)) (c .before .before .choose .ensures)) refl
+
+cast-t19 : tie.Need-cast-t19
+cast-t19 c = search needs
+
+slice-aggregate-moved : tie.Need-slice-aggregate-moved
+slice-aggregate-moved c = search needs
+
+slice-aggregate-moved-2 : tie.Need-slice-aggregate-moved-2
+slice-aggregate-moved-2 c = search needs
+
+moved-requires : tie.Need-moved-requires
+moved-requires c κs = moving (c .before .before .before .before .before .before .before)
+
+returns-4 : tie.Need-returns-4
+returns-4 c =
+    moved (narrow (c .before .before .before .before .before .before .before .before .before .before .before)) (few (c .before .before .before .before .before .before .before .before)) (c .before .before .before .before .before .choose .result .choice) (best (c .before .before .before)) (ap value (all-chosen (c .before .before .before .before .before .before .before .before .before))) (c .moved .ensures)
+
+pub moved-by-spec : {M : Type 1} → statement M
+moved-by-spec =
+    tie.close
+    (tie.spec
+    cast-edges
+    new-counts-requires
+    slice-aggregate-too-wide
+    too-wide-requires
+    cast-t13
+    returns
+    slice-aggregate-chosen
+    chosen-requires
+    mul-k
+    array-read-k
+    returns-2
+    slice-aggregate-choose
+    slice-aggregate-choose-2
+    choose-requires
+    returns-3
+    cast-t19
+    slice-aggregate-moved
+    slice-aggregate-moved-2
+    moved-requires
+    returns-4)
