@@ -1,0 +1,3 @@
+-- The laws of what `listing` prints.
+pub mod Lines
+pub mod Listing

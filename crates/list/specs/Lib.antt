@@ -1,0 +1,2 @@
+-- What the program `listing` prints.
+pub mod Listed

@@ -1,0 +1,12 @@
+// Reads one text of up to 32,768 bytes from standard input, and prints it retimed: the new text, then per node a frame `04`: node (2), lag (2, two's
+// complement); or its refusal: `0F`, number (1), place kind (1: 00 whole, 01 line, 02 node, 03 edge), place (2, 0 for whole).
+use libc::STDIN_FILENO;
+use libc::STDOUT_FILENO;
+
+fn main() {
+    let mut text = [0u8; 32768];
+    let n = io::read_full(STDIN_FILENO, &mut text);
+    let mut out = [0u8; 38400];
+    let m = list::list(&text[..n], &mut out);
+    io::write_all(STDOUT_FILENO, &out[..m]);
+}
