@@ -8,6 +8,7 @@ ghost use Prim.Native.Nat.{_<_};
 ghost use Rattle.netlist.specs.Answer.{says};
 ghost use Rattle.show.specs.Shown.{Rewrites};
 ghost use Rattle.simulate.specs.Run.{Runs};
+ghost use Rattle.retime.specs.Retime.{Retimes};
 ghost use Rattle.exports.specs.Code.{code, place, Coded};
 
 mod records;
@@ -58,6 +59,15 @@ pub extern "C" fn exports_run(text: &[u8], vectors: &[u8], out: &mut [u8]) -> u6
     ensures { λ r. ⌜ Coded (λ s. Runs (now (text .entry)) (now (vectors .entry)) (now (out .entry)) s (now (out .exit))) r ⌝ }
 {
     let a = simulate::run(text, vectors, out);
+    answer_code(a)
+}
+
+// A text retimed.
+#[no_mangle]
+pub extern "C" fn exports_retime(text: &[u8], out: &mut [u8], lags: &mut [i32]) -> u64
+    ensures { λ r. ⌜ Coded (λ s. Retimes (now (text .entry)) (now (out .entry)) (now (lags .entry)) s (now (out .exit)) (now (lags .exit))) r ⌝ }
+{
+    let a = retime::retime(text, out, lags);
     answer_code(a)
 }
 
