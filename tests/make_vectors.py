@@ -17,8 +17,10 @@ from pathlib import Path
 
 from netlists import CARDS
 import running_cases as running
+import retiming_cases as retiming
 from reading_cases import expected, reading_cases
 from reference import reread, text_of
+from retiming import listing
 
 SEED = 20010
 
@@ -53,6 +55,24 @@ def run_run() -> tuple[bytes, bytes]:
     return b"".join(given), b"".join(printed)
 
 
+def listing_run() -> tuple[bytes, bytes]:
+    """The program listing on card A."""
+    text = text_of(CARDS["A"])
+    return text, listing(text)
+
+
+def listings_run() -> tuple[bytes, bytes]:
+    """The program listings: each text after a frame `00` with its length."""
+    given, printed = [], []
+    for name, cases in retiming.retiming_cases(SEED).items():
+        answers = [retiming.expected(case) for case in cases]
+        for case, answer in zip(cases, answers):
+            given.append(b"00%04X\n" % len(case.text) + case.text)
+            printed.append(answer)
+        print(f"listings: {name}: {len(cases)} texts; {numbers_given(answers, 'retimed')}")
+    return b"".join(given), b"".join(printed)
+
+
 def numbers_given(answers: list[bytes], none: str) -> str:
     """How often each number was given, for the reader of the run; `none` where nothing is refused."""
     seen = Counter(int(a[2:4], 16) if a.startswith(b"0F") else 0 for a in answers)
@@ -63,6 +83,8 @@ RUNS: dict[str, Callable[[], tuple[bytes, bytes]]] = {
     "reread": reread_run,
     "rereads": rereads_run,
     "run": run_run,
+    "listing": listing_run,
+    "listings": listings_run,
 }
 
 

@@ -8,11 +8,11 @@
 use Prim.Native.Nat.{ℕ, _+_, _*_, _≤_, _<_}
 use native.Mathlib.Omega.{arith}
 use mathlib.Core.Path.{_≡_, refl, sym, ap, ap₂, subst, _∙_}
-use mathlib.Core.List.{List, [], _∷_, _++_}
+use mathlib.Core.List.{List, [], _++_}
 use borrow.Author.Tests.{le-leb}
 use lib.IntN.{ℤ, pos}
 use lib.ListN.{length, take, drop, replicate, length-append, length-drop}
-use lib.Seq.{sets, sets-eq, take-append-seam, drop-append-add, drop-drop, length-sets, length-take-le}
+use lib.Seq.{sets, sets-eq, drop-append-add, drop-drop, length-sets, length-take-le}
 use Rattle.io.specs.Counts.{Counts}
 use Rattle.frame.specs.Decoded.{placed}
 use Rattle.frame.proofs.Laws.{placed-room}
@@ -21,7 +21,7 @@ use Rattle.netlist.specs.declared.Place.{Place}
 use Rattle.netlist.specs.declared.Place.the-variants.{Whole, Line, Node, Edge}
 use Rattle.netlist.specs.declared.Answer.{Answer}
 use Rattle.netlist.specs.declared.Answer.the-variants.{Done, Refused}
-use Rattle.netlist.specs.Answer.{Says, value, refused, says}
+use Rattle.netlist.specs.Answer.{Says, value, says}
 use Rattle.netlist.specs.Read.{Reads}
 use Rattle.netlist.specs.Write.{joined, textOf}
 use Rattle.netlist.proofs.Fits.{clash}
@@ -36,7 +36,7 @@ use Rattle.retime.proofs.theorems.Moved.{same-length}
 use Rattle.retime.proofs.theorems.Refusals.{nothing-touched}
 use Rattle.show.specs.Shown.{refusalLine, lineIn}
 use Rattle.show.proofs.Printed.{counted, refusal-length}
-use Rattle.list.specs.Listed.{lagLine, listed, Listing, Lists}
+use Rattle.list.specs.Listed.{lagLine, listed, Lists}
 use Rattle.list.proofs.Lines.{lag-length}
 
 pub lists-short : (t old : List ℕ) → length old < length t + 5632 → Lists t old 0 old × Counts 0 old

@@ -18,26 +18,22 @@ use mathlib.Core.List.{List, [], _∷_, _++_}
 use lib.IntN.{ℤ, pos}
 use lib.ListN.{length, getD, drop}
 use lib.Seq.{sets, sets-eq}
-use Rattle.theory.specs.Gate.{gate}
 use Rattle.theory.specs.Lag.{up, down}
-use Rattle.theory.specs.Retimer.{Sound}
 use Rattle.graph.specs.Columns.{at}
 use Rattle.netlist.specs.declared.Netlist.{Netlist}
 use Rattle.netlist.specs.declared.Place.{Place}
 use Rattle.netlist.specs.declared.Answer.{Answer}
 use Rattle.netlist.specs.declared.Answer.the-variants.{Done, Refused}
-use Rattle.netlist.specs.Answer.{Says, value, refused, says, whole, edge}
-use Rattle.netlist.specs.Net.{graphOf, regsOf}
+use Rattle.netlist.specs.Answer.{Says, value, refused, says, whole}
 use Rattle.netlist.specs.Read.{Reads}
 use Rattle.netlist.specs.Write.{joined, textOf}
 use Rattle.netlist.proofs.Fits.{clash}
 use Rattle.netlist.proofs.Run.{fit-rows}
 use Rattle.netlist.proofs.theorems.One.{one-reading}
-use Rattle.netlist.proofs.theorems.Sound.{read-is-sound}
 use Rattle.simulate.proofs.Answered.{says-refused, reads-done}
 use Rattle.simulate.proofs.Ran.{reads-zero}
 use Rattle.lags.specs.declared.Labels.{Labels}
-use Rattle.lags.specs.Lags.{Sure, Leasts}
+use Rattle.lags.specs.Lags.{Leasts}
 use Rattle.lags.proofs.Laws.{read-sure}
 use Rattle.retime.specs.Labels.{lagsOf, Labelled}
 use Rattle.retime.specs.Moves.{Moves, wide, many, startless, moved}

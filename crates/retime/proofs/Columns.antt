@@ -5,7 +5,7 @@
 use Prim.Native.Nat.{ℕ, zero, suc, _+_, _*_, _-_, _/_, _%_, _≤_, _<_}
 use native.Mathlib.Omega.{arith}
 use native.Mathlib.Numerals.{add-one}
-use mathlib.Core.Path.{_≡_, refl, sym, subst, ap, ap₂, _∙_}
+use mathlib.Core.Path.{_≡_, refl, sym, ap, ap₂, _∙_}
 use mathlib.Core.Bool.{cond}
 use mathlib.Core.Logic.{inl}
 use mathlib.Core.List.{List, _∷_, map}
@@ -19,7 +19,6 @@ use Rattle.graph.specs.Columns.{at}
 use Rattle.graph.specs.Sort.{group, sorted, Sorts}
 use Rattle.graph.proofs.Sorted.{sorted-part}
 use Rattle.netlist.specs.declared.Netlist.{Netlist}
-use Rattle.netlist.specs.Net.{graphOf}
 use Rattle.netlist.proofs.Run.{fit-wired}
 use Rattle.solve.specs.Program.{operandsOf}
 use Rattle.retime.specs.Cells.{source, Compiled}

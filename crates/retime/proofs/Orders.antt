@@ -17,7 +17,7 @@ use Rattle.graph.specs.Sort.{Ordered}
 use Rattle.netlist.specs.declared.Netlist.{Netlist}
 use Rattle.netlist.specs.Net.{graphOf, regsOf}
 use Rattle.netlist.proofs.Fits.{edge-fits}
-use Rattle.retime.specs.Labels.{lagsOf, Labelled, countAt, Counts}
+use Rattle.retime.specs.Labels.{lagsOf, Labelled, Counts}
 use Rattle.retime.proofs.Lags.{registers-alike}
 
 module _ (n m : ℕ) (k k′ from to : List ℕ) (count : ℕ → ℕ) where

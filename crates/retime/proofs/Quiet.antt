@@ -1,13 +1,10 @@
 -- New start values that are not chosen: what the edges show in the original with all inputs at 0, which code finds by stepping it.
 --   new-chosen          the chosen ones are digits of the choice's number
---   new-seen, new-word  the others are what the edge shows in the original, r(v) clocks earlier
---   new-kept, new-taken that is an old value while the old registers last, then the source's value
---   new-soon            before which clock of the original they are found
---   steps-show, ran-shows    what a stepped machine shows at its clock t is what the edge shows at clock t
+--   new-seen            the others are what the edge shows in the original, r(v) clocks earlier
+--   steps-show          what a stepped machine shows at its clock t is what the edge shows at clock t
 --   wordsIn             the words after so many clocks of a netlist on one and the same vector
 --   Silent              a vector of zeros
---   reads-fits          the start values of a netlist that reads fit their edges' counts
---   fits-in, quiet-value, quiet-word    on zeros: these words fit; the values of their clock, and the words' bits, are the original's
+--   fits-in, quiet-value    on zeros: these words fit, and the values of their clock are the original's
 --   quiet-shown         so what an edge shows in the machine's clock s is what it shows in the original at clock s
 --   new-shown           so a new start value that is not chosen is read off the edge
 -- Assumes nothing.
@@ -19,29 +16,24 @@ use mathlib.Core.List.{List}
 use borrow.Author.Tests.{lt-ltb, le-ltb, eq-eqb, ne-eqb}
 use lib.IntN.{ℤ}
 use lib.ListN.{getD}
-use Rattle.theory.specs.Graph.{Graph, Wired}
-use Rattle.theory.specs.Walk.{Loop}
+use Rattle.theory.specs.Graph.{Graph}
 use Rattle.theory.specs.Clock.{Regs, seen, gather, value}
-use Rattle.theory.specs.Lag.{up, down, newCount, Legal}
+use Rattle.theory.specs.Lag.{up, down}
 use Rattle.theory.specs.Move.{move, moveIf, quiet, sum, chosenOn, chosenIn, digit}
-use Rattle.theory.specs.Step.{shows, showsIf, Steps, words, ran}
+use Rattle.theory.specs.Step.{shows, showsIf, Steps, words}
 use Rattle.theory.specs.Gate.{gate}
 use Rattle.theory.specs.Retimer.{Sound, retimed}
 use Rattle.theory.proofs.numbers.Whole.{no-down}
-use Rattle.theory.proofs.clocks.Seen.{seen-early, seen-late, seen-same}
+use Rattle.theory.proofs.clocks.Seen.{seen-late, seen-same}
 use Rattle.theory.proofs.clocks.Trace.{same-regs-refl, unique}
 use Rattle.theory.proofs.clocks.Value.{value-trace}
-use Rattle.theory.proofs.clocks.Step.{word-is, steps-trace, run-steps, run-value}
+use Rattle.theory.proofs.clocks.Step.{word-is, steps-trace}
 use Rattle.theory.proofs.clocks.Gate.{gate-bit}
 use Rattle.netlist.specs.declared.Netlist.{Netlist}
-use Rattle.netlist.specs.Answer.{value as says}
 use Rattle.netlist.specs.Net.{bit, graphOf, regsOf}
-use Rattle.netlist.specs.Read.{Reads}
-use Rattle.netlist.proofs.theorems.Lines.{lines-fact}
-use Rattle.netlist.proofs.theorems.Sound.{reads-value}
 use Rattle.simulate.specs.Clock.{before, values, wordsAfter}
 use Rattle.simulate.proofs.Words.{moved-low, moved-top, moved-fits}
-use Rattle.simulate.proofs.Clock.{bitsOf, shown, Fits, start-fits, after-in, value-input, value-gate}
+use Rattle.simulate.proofs.Clock.{bitsOf, shown, Fits, after-in, value-input, value-gate}
 
 -- ── New start values ────────────────────────────────────────────────────────────────────────
 
@@ -55,23 +47,6 @@ module _ (gate : ℕ → List ℕ → ℕ) (G : Graph) (R : Regs) (r : ℕ → �
   unfolding move moveIf
   new-seen s h = rw (le-ltb (t + down (r (G .dst e))) (up (r (G .dst e))) (omega arith)) (ap (seen G R (value gate G R quiet) e) (omega arith))
 
-  pub new-word : up (r (G .dst e)) ≤ t
-      → retimed gate G R r c .start e t ≡ seen G R (value gate G R quiet) e (t + down (r (G .dst e)) - up (r (G .dst e)))
-  new-word h = new-seen (t + down (r (G .dst e)) - up (r (G .dst e))) (omega arith)
-
-  -- "s from 0 to w − 1: old value s."
-  pub new-kept : (s : ℕ) → s + up (r (G .dst e)) ≡ t + down (r (G .dst e)) → s < R .count e → retimed gate G R r c .start e t ≡ R .start e s
-  new-kept s h l = new-seen s h ∙ seen-early G R (value gate G R quiet) e s l
-
-  -- "s of w or more: u's value in the original at clock s − w." There s = w + q.
-  pub new-taken : (q : ℕ) → R .count e + q + up (r (G .dst e)) ≡ t + down (r (G .dst e)) → retimed gate G R r c .start e t ≡ value gate G R quiet (G .src e) q
-  new-taken q h = new-seen (R .count e + q) h ∙ seen-late G R (value gate G R quiet) e (R .count e + q) q refl
-
-  -- That clock s lies below w − r(u), so s − w lies below −r(u): the original need not be stepped for longer.
-  pub new-soon : Legal G (R .count) r → e < G .edges → t < newCount G (R .count) r e → (s : ℕ) → s + up (r (G .dst e)) ≡ t + down (r (G .dst e))
-      → s + up (r (G .src e)) < R .count e + down (r (G .src e))
-  new-soon legal he ht s h = omega (arith, legal .fits e he)
-
 -- ── What a stepped machine shows ────────────────────────────────────────────────────────────
 
 -- An edge without a register shows its source in this clock; else bit 0 of its word, which is what is seen 0 clocks later (`word-is`).
@@ -84,12 +59,6 @@ steps-show gate G R {ins} {x} {word} steps t e he = go (ℕ-discrete (R .count e
     go (yes z) = rw (eq-eqb (R .count e) 0 z) (sym (seen-late G R x e t t (omega arith)))
     go (no z) = rw (ne-eqb (R .count e) 0 z) (word-is gate G R steps t e 0 he (omega arith) ∙ ap (seen G R x e) (omega arith))
 
-pub ran-shows : (gate : ℕ → List ℕ → ℕ) (G : Graph) → Wired G → (R : Regs) → ¬ Loop G (R .count) → (ins : ℕ → ℕ → ℕ) (t e : ℕ) → e < G .edges
-    → shows G R (words gate G R ins t) (λ u. ran gate G R ins u t) e ≡ seen G R (value gate G R ins) e t
-ran-shows gate G w R none ins t e he =
-    steps-show gate G R (run-steps gate G w R none ins) t e he
-    ∙ seen-same G R (ran gate G R ins) (value gate G R ins) e t (λ k h. run-value gate G w R none ins (G .src e) k (w .src-in e he))
-
 -- ── The netlist stepped on zeros ────────────────────────────────────────────────────────────
 
 -- The words after s clocks from the start values, each on the same vector.
@@ -100,9 +69,6 @@ wordsIn net vector (suc s) = wordsAfter net (wordsIn net vector s) vector
 -- Only zeros are read from it. (`zeros n` is such a vector: `zeros-at` in netlist's proofs/Rows.)
 abbrev pub Silent : List ℕ → Type 0
 Silent vector = (i : ℕ) → getD vector i 0 ≡ 0
-
-pub reads-fits : {t : List ℕ} (net : Netlist) → Reads t (says 0) net → Fits net (net .start)
-reads-fits {t} net r = start-fits net (lines-fact t net .0 (reads-value r .0) .0)
 
 module _ (net : Netlist) (ok : Sound gate (graphOf net) (regsOf net)) (starts : Fits net (net .start)) (vector : List ℕ) (silent : Silent vector) where
   now-bit : (words : List ℕ) (v : ℕ) → v < net .nodes → values net words vector v ≤ 1
@@ -153,11 +119,6 @@ module _ (net : Netlist) (ok : Sound gate (graphOf net) (regsOf net)) (starts : 
   seen-quiet e s he =
       seen-same (graphOf net) (regsOf net) (λ v s. values net (wordsIn net vector s) vector v) (value gate (graphOf net) (regsOf net) quiet) e s
       (λ k h. quiet-value (graphOf net .src e) k (ok .wired .src-in e he))
-
-  -- Bit k of a word is what will be seen k clocks later.
-  pub quiet-word : (e s k : ℕ) → e < net .edges → k < regsOf net .count e
-      → bit (getD (wordsIn net vector s) e 0) k ≡ seen (graphOf net) (regsOf net) (value gate (graphOf net) (regsOf net) quiet) e (s + k)
-  quiet-word e s k he hk = word-is gate (graphOf net) (regsOf net) quiet-steps s e k he hk ∙ seen-quiet e (s + k) he
 
   pub quiet-shown : (e s : ℕ) → e < net .edges
       → shown net (wordsIn net vector s) (values net (wordsIn net vector s) vector) e ≡ seen (graphOf net) (regsOf net) (value gate (graphOf net) (regsOf net) quiet) e s

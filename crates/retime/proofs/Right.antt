@@ -9,7 +9,7 @@ use Prim.Native.Nat.{ℕ, suc, _+_, _*_, _-_, _/_, _%_, _≤_, _<_}
 use native.Mathlib.Omega.{arith}
 use native.Mathlib.Numerals.{add-one}
 use native.Mathlib.Decide.{ℕ-discrete, decLt}
-use mathlib.Core.Path.{_≡_, refl, sym, subst, ap, ap₂, _∙_}
+use mathlib.Core.Path.{_≡_, sym, subst, ap, _∙_}
 use mathlib.Core.Bool.{Bool, true, false}
 use mathlib.Core.Logic.{_⊎_, inl, inr}
 use mathlib.Core.List.{List}
@@ -21,7 +21,7 @@ use Rattle.theory.proofs.numbers.Whole.{no-down}
 use Rattle.theory.proofs.numbers.Sums.{sum-within}
 use Rattle.theory.proofs.retimer.Levels.{lag-chosen}
 use Rattle.graph.specs.Columns.{at}
-use Rattle.graph.specs.Sort.{group, Sorts, Ordered}
+use Rattle.graph.specs.Sort.{group, Ordered}
 use Rattle.graph.proofs.Sorted.{sorted-room}
 use Rattle.netlist.specs.declared.Netlist.{Netlist}
 use Rattle.netlist.specs.Net.{graphOf, regsOf}

@@ -14,7 +14,6 @@ use lib.Dec.{eqb}
 use Rattle.graph.specs.Columns.{at}
 use Rattle.netlist.specs.declared.Netlist.{Netlist}
 use Rattle.netlist.specs.Net.{bit}
-use Rattle.retime.specs.Numbers.{lagAt}
 
 unfoldable pub mergeOf : ℕ → ℕ → ℕ
 mergeOf m b = cond (eqb m 2) b (cond (eqb m b) b 3)

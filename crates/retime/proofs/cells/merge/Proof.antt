@@ -1,13 +1,7 @@
 -- `retime::cells::merge` meets its contract.
 -- Assumes nothing.
-use Prim.Native.Nat.{ℕ, _+_, _*_, _-_, _≤_, _<_}
-use mathlib.Core.Path.{_≡_, refl, sym, ap, ap₂, subst, _∙_}
-use mathlib.Core.Logic.{⊎-elim}
-use mathlib.Core.List.{List}
-use native.Mathlib.Omega.{arith}
-use denote.Ref.{now}
-use lib.ListN.{length, length-set}
-use borrow.Author.Needs.{needs}
+use Prim.Native.Nat.{_-_}
+use mathlib.Core.Path.{sym}
 use Rattle.retime.proofs.Wants.{merge-first, merge-same, merge-other}
 use Rattle.retime.proofs.cells.merge.Statement.{statement}
 use Rattle.retime.proofs.cells.merge.Tie as tie

@@ -1,12 +1,9 @@
 -- `retime::cells::number_cells` meets its contract: the cells of the clocks below t are numbered.
 -- Assumes nothing.
-use Prim.Native.Nat.{ℕ, _+_, _*_, _-_, _≤_, _<_}
-use mathlib.Core.Path.{_≡_, refl, sym, ap, ap₂, subst, _∙_}
-use mathlib.Core.Logic.{⊎-elim}
-use mathlib.Core.List.{List}
+use Prim.Native.Nat.{_-_, _≤_}
+use mathlib.Core.Path.{_≡_, sym, subst, _∙_}
 use native.Mathlib.Omega.{arith}
 use denote.Ref.{now}
-use lib.ListN.{length, length-set}
 use borrow.Author.Needs.{needs}
 use Rattle.retime.specs.Numbers.{lagAt, Numbered}
 use Rattle.retime.proofs.Numbers.{numbered-none, numbered-clock}

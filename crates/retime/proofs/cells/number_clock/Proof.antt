@@ -1,12 +1,12 @@
 -- `retime::cells::number_clock` meets its contract: the cells before place p are numbered.
 -- Assumes nothing.
 use Prim.Native.Nat.{ℕ, _+_, _*_, _-_, _≤_, _<_}
-use mathlib.Core.Path.{_≡_, refl, sym, ap, ap₂, subst, _∙_}
+use mathlib.Core.Path.{_≡_, sym, subst, _∙_}
 use mathlib.Core.Logic.{⊎-elim}
 use mathlib.Core.List.{List}
 use native.Mathlib.Omega.{arith}
 use denote.Ref.{now}
-use lib.ListN.{length, length-set, set}
+use lib.ListN.{length, set}
 use borrow.Author.Needs.{needs}
 use Rattle.graph.specs.Columns.{at}
 use Rattle.retime.specs.Numbers.{lagAt, Numbered}

@@ -1,14 +1,9 @@
 -- `retime::cells::order_of` meets its contract.
 -- Assumes nothing.
-use Prim.Native.Nat.{ℕ, _+_, _*_, _-_, _≤_, _<_}
-use mathlib.Core.Path.{_≡_, refl, sym, ap, ap₂, subst, _∙_}
-use mathlib.Core.Logic.{⊎-elim}
-use mathlib.Core.List.{List}
+use Prim.Native.Nat.{_-_}
 use native.Mathlib.Omega.{arith}
 use denote.Ref.{now}
-use lib.ListN.{length, length-set}
 use borrow.Author.Needs.{needs}
-use Rattle.graph.specs.Columns.{at}
 use Rattle.netlist.proofs.Lowest.{laid}
 use Rattle.retime.proofs.Labels.{low-edges}
 use Rattle.retime.proofs.Orders.{moved-no-loop, ordered-counts}

@@ -1,12 +1,7 @@
 -- `retime::cells::source_of` meets its contract.
 -- Assumes nothing.
-use Prim.Native.Nat.{ℕ, _+_, _*_, _-_, _≤_, _<_}
-use mathlib.Core.Path.{_≡_, refl, sym, ap, ap₂, subst, _∙_}
-use mathlib.Core.Logic.{⊎-elim}
-use mathlib.Core.List.{List}
+use Prim.Native.Nat.{_+_, _-_}
 use native.Mathlib.Omega.{arith}
-use denote.Ref.{now}
-use lib.ListN.{length, length-set}
 use borrow.Author.Needs.{needs}
 use Rattle.retime.proofs.Sources.{source-chosen, source-cell}
 use Rattle.retime.proofs.cells.source_of.Statement.{statement}

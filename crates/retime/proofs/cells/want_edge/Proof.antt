@@ -1,7 +1,7 @@
 -- `retime::cells::want_edge` meets its contract: the edge's old values below s are wanted.
 -- Assumes nothing.
 use Prim.Native.Nat.{ℕ, _+_, _*_, _-_, _≤_, _<_}
-use mathlib.Core.Path.{_≡_, refl, sym, ap, ap₂, subst, _∙_}
+use mathlib.Core.Path.{_≡_, sym, ap, subst, _∙_}
 use mathlib.Core.Logic.{⊎-elim}
 use mathlib.Core.List.{List}
 use native.Mathlib.Omega.{arith}
@@ -9,9 +9,8 @@ use denote.Ref.{now}
 use lib.ListN.{length, length-set, set}
 use borrow.Author.Needs.{needs}
 use Rattle.graph.specs.Columns.{at}
-use Rattle.netlist.specs.Net.{bit}
 use Rattle.retime.specs.Numbers.{lagAt}
-use Rattle.retime.specs.Wants.{mergeOf, EdgeWants}
+use Rattle.retime.specs.Wants.{EdgeWants}
 use Rattle.retime.proofs.Wants.{edge-none, edge-miss, edge-hit}
 use Rattle.retime.proofs.cells.want_edge.Statement.{statement}
 use Rattle.retime.proofs.cells.want_edge.Tie as tie

@@ -1,11 +1,7 @@
 -- `retime::choosing::choose` meets its contract.
 -- Assumes nothing.
-use Prim.Native.Nat.{ℕ, _+_, _*_, _-_, _≤_, _<_}
-use mathlib.Core.Path.{_≡_, refl, ap, sym, _∙_}
-use native.Mathlib.Omega.{arith}
+use Prim.Native.Nat.{_-_}
 use borrow.Author.Needs.{needs}
-use denote.Ref.{now}
-use lib.ListN.{length}
 use Rattle.retime.proofs.choosing.choose.Statement.{statement}
 use Rattle.retime.proofs.choosing.choose.Tie as tie
 

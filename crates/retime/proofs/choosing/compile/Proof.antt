@@ -1,10 +1,9 @@
 -- `retime::choosing::compile` meets its contract: the cells put together are a right program, and what is found in it is retiming's.
 -- Assumes nothing.
-use Prim.Native.Nat.{ℕ, _+_, _*_, _-_, _≤_, _<_}
-use mathlib.Core.Path.{_≡_, refl, ap, sym, _∙_}
+use Prim.Native.Nat.{_-_, _≤_}
+use mathlib.Core.Path.{_≡_}
 use native.Mathlib.Omega.{arith}
 use borrow.Author.Needs.{needs}
-use denote.Ref.{now}
 use lib.ListN.{length}
 use Rattle.retime.proofs.Labels.{low-nodes, low-edges}
 use Rattle.retime.proofs.Right.{low-lag, arranged, okay, node-low, wirable, right, chooses}

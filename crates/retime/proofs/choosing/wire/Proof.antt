@@ -1,11 +1,9 @@
 -- `retime::choosing::wire` meets its contract.
 -- Assumes nothing.
-use Prim.Native.Nat.{ℕ, _+_, _*_, _-_, _≤_, _<_}
-use mathlib.Core.Path.{_≡_, refl, ap, sym, _∙_}
+use Prim.Native.Nat.{_-_}
 use native.Mathlib.Omega.{arith}
 use borrow.Author.Needs.{needs}
-use denote.Ref.{now}
-use lib.ListN.{length, replicate}
+use lib.ListN.{replicate}
 use Rattle.retime.specs.Wires.{Entering}
 use Rattle.retime.proofs.choosing.wire.Statement.{statement}
 use Rattle.retime.proofs.choosing.wire.Tie as tie

@@ -1,7 +1,7 @@
 -- `retime::counts::chosen` meets its contract: the sums up to e are filled, and each edge adds at most 32.
 -- Assumes nothing.
-use Prim.Native.Nat.{ℕ, _+_, _*_, _-_, _≤_, _<_, min}
-use mathlib.Core.Path.{_≡_, refl, sym, ap, ap₂, subst, _∙_}
+use Prim.Native.Nat.{ℕ, _+_, _*_, _-_, _≤_, _<_}
+use mathlib.Core.Path.{_≡_, refl, sym, ap₂, _∙_}
 use native.Mathlib.Omega.{arith}
 use denote.Ref.{now}
 use lib.ListN.{length, length-set, replicate}
@@ -10,7 +10,7 @@ use Rattle.theory.specs.Move.{sum}
 use Rattle.graph.specs.Columns.{at}
 use Rattle.graph.proofs.Fills.{fill-more}
 use Rattle.retime.specs.Labels.{chosenAt}
-use Rattle.retime.proofs.Labels.{to-node, low-edge, low-edges, sum-more, base-none, sum-none, chosen-is}
+use Rattle.retime.proofs.Labels.{to-node, low-edge, sum-more, base-none, sum-none, chosen-is}
 use Rattle.retime.proofs.counts.chosen.Statement.{statement}
 use Rattle.retime.proofs.counts.chosen.Tie as tie
 

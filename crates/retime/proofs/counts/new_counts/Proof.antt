@@ -1,7 +1,7 @@
 -- `retime::counts::new_counts` meets its contract: the new counts below e are filled.
 -- Assumes nothing.
-use Prim.Native.Nat.{ℕ, _+_, _*_, _-_, _≤_, _<_, min}
-use mathlib.Core.Path.{_≡_, refl, sym, ap, ap₂, subst, _∙_}
+use Prim.Native.Nat.{ℕ, _-_, _≤_, _<_}
+use mathlib.Core.Path.{_≡_, refl, _∙_}
 use native.Mathlib.Omega.{arith}
 use denote.Ref.{now}
 use lib.ListN.{length, length-set}
@@ -9,7 +9,7 @@ use borrow.Author.Needs.{needs}
 use Rattle.graph.specs.Columns.{at}
 use Rattle.graph.proofs.Fills.{fill-more}
 use Rattle.retime.specs.Labels.{countAt}
-use Rattle.retime.proofs.Labels.{from-node, to-node, low-edge, low-edges, new-fits, new-is}
+use Rattle.retime.proofs.Labels.{from-node, to-node, low-edge, new-fits, new-is}
 use Rattle.retime.proofs.counts.new_counts.Statement.{statement}
 use Rattle.retime.proofs.counts.new_counts.Tie as tie
 

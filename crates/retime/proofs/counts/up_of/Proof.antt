@@ -1,10 +1,7 @@
 -- `retime::counts::up_of` meets its contract.
 -- Assumes nothing.
-use Prim.Native.Nat.{ℕ, _+_, _*_, _-_, _≤_, _<_, min}
-use mathlib.Core.Path.{_≡_, refl, sym, ap, ap₂, subst, _∙_}
+use Prim.Native.Nat.{_-_, _<_}
 use native.Mathlib.Omega.{arith}
-use denote.Ref.{now}
-use lib.ListN.{length, length-set}
 use borrow.Author.Needs.{needs}
 use Rattle.retime.proofs.Labels.{up-high, up-low}
 use Rattle.retime.proofs.counts.up_of.Statement.{statement}
