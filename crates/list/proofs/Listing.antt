@@ -31,7 +31,8 @@ use Rattle.netlist.proofs.theorems.One.{one-reading}
 use Rattle.netlist.proofs.theorems.Some.{some-reading}
 use Rattle.simulate.proofs.Answered.{says-refused}
 use Rattle.lags.proofs.Laws.{read-sure}
-use Rattle.retime.specs.Retime.{movedNet, Retimes, unread, twelve, eight, nine, ten, eleven, done}
+use Rattle.moves.specs.Moved.{movedNet}
+use Rattle.retime.specs.Retime.{Retimes, unread, twelve, eight, nine, ten, eleven, done}
 use Rattle.retime.proofs.theorems.Moved.{same-length}
 use Rattle.retime.proofs.theorems.Refusals.{nothing-touched}
 use Rattle.show.specs.Shown.{refusalLine, lineIn}

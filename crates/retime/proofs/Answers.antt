@@ -35,12 +35,13 @@ use Rattle.simulate.proofs.Ran.{reads-zero}
 use Rattle.lags.specs.declared.Labels.{Labels}
 use Rattle.lags.specs.Lags.{Leasts}
 use Rattle.lags.proofs.Laws.{read-sure}
-use Rattle.retime.specs.Labels.{lagsOf, Labelled}
+use Rattle.moves.specs.Labels.{lagsOf, Labelled}
 use Rattle.retime.specs.Moves.{Moves, wide, many, startless, moved}
-use Rattle.retime.specs.Retime.{movedNet, Untouched, Room, Retimes, unread, twelve, eight, nine, ten, eleven, done, LagsFit}
+use Rattle.moves.specs.Moved.{movedNet}
+use Rattle.retime.specs.Retime.{Untouched, Room, Retimes, unread, twelve, eight, nine, ten, eleven, done, LagsFit}
 use Rattle.retime.specs.Demand.{Demand3}
-use Rattle.retime.proofs.Labels.{lag-word}
-use Rattle.retime.proofs.Rows.{rows-at}
+use Rattle.moves.proofs.Labels.{lag-word}
+use Rattle.moves.proofs.Rows.{rows-at}
 use Rattle.retime.proofs.theorems.Moved.{same-length}
 use Rattle.retime.proofs.theorems.Demand.{demand-follows}
 

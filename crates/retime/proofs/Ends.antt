@@ -30,9 +30,10 @@ use Rattle.netlist.proofs.Rows.{below-more}
 use Rattle.netlist.proofs.Fits.{clash}
 use Rattle.netlist.proofs.theorems.One.{one-reading}
 use Rattle.netlist.proofs.theorems.Sound.{read-is-sound}
-use Rattle.retime.specs.Retime.{movedNet, LeastLags, Untouched, Room, Written, Retimes, unread, twelve, eight, nine, ten, eleven, done}
-use Rattle.retime.proofs.Rows.{rows-same}
-use Rattle.retime.proofs.Lags.{count-alike, chosen-alike, best-alike, no-start-alike}
+use Rattle.moves.specs.Moved.{movedNet}
+use Rattle.retime.specs.Retime.{LeastLags, Untouched, Room, Written, Retimes, unread, twelve, eight, nine, ten, eleven, done}
+use Rattle.moves.proofs.Rows.{rows-same}
+use Rattle.moves.proofs.Lags.{count-alike, chosen-alike, best-alike, no-start-alike}
 use Rattle.retime.proofs.theorems.Moved.{moved-alike}
 
 -- ── The facts ───────────────────────────────────────────────────────────────────────────────

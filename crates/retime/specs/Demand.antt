@@ -15,7 +15,8 @@ use Rattle.netlist.specs.Net.{graphOf, regsOf, delayOf}
 use Rattle.netlist.specs.Read.{Reads}
 use Rattle.netlist.specs.Write.{textOf}
 use Rattle.simulate.specs.Run.{Runs}
-use Rattle.retime.specs.Retime.{movedNet, LeastLags}
+use Rattle.moves.specs.Moved.{movedNet}
+use Rattle.retime.specs.Retime.{LeastLags}
 
 -- "some legal retiming meets the period and carries the start": any lags, any counts, any choice of bits.
 abbrev pub Startable : Netlist → Type 0

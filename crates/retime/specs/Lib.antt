@@ -3,12 +3,5 @@ pub mod Retime
 pub mod Demand
 pub mod Theorems
 pub mod Card
--- Inside: the start values to be found, as a program for the search; labels, cells, operands, wanted values.
-pub mod Cells
-pub mod Labels
-pub mod Numbers
-pub mod Sources
-pub mod Wants
+-- Inside: what is said of a netlist and its least lags.
 pub mod Moves
-pub mod Wires
-pub mod Starts

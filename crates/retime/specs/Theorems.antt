@@ -19,7 +19,8 @@ use Rattle.netlist.specs.Answer.{Says, value, refused, whole, edge}
 use Rattle.netlist.specs.Net.{graphOf, regsOf, delayOf}
 use Rattle.netlist.specs.Read.{Reads}
 use Rattle.netlist.specs.Write.{textOf}
-use Rattle.retime.specs.Retime.{LeastLags, movedNet, Retimes}
+use Rattle.retime.specs.Retime.{LeastLags, Retimes}
+use Rattle.moves.specs.Moved.{movedNet}
 use Rattle.retime.specs.Demand.{Demand3}
 
 -- "a buffer for the new text (same length)": the moved netlist's text is as long as the original's.

@@ -1,14 +1,9 @@
 // Retiming. The promises are in specs/: Retime, Demand, Theorems, Card.
-mod cells;
-mod choosing;
-mod counts;
-mod starts;
-
-use choosing::choose;
-use counts::chosen;
-use counts::new_counts;
-use counts::too_wide;
+use choose::choose;
 use lags::least;
+use moves::chosen;
+use moves::new_counts;
+use moves::too_wide;
 use netlist::Answer;
 use netlist::Netlist;
 use netlist::Place;
@@ -25,7 +20,7 @@ ghost use Rattle.netlist.specs.Net.{graphOf, regsOf};
 ghost use Rattle.netlist.specs.Write.{joined};
 ghost use Rattle.simulate.specs.Ran.{Steppable};
 ghost use Rattle.lags.specs.Lags.{lagOf, Sure};
-ghost use Rattle.retime.specs.Labels.{lagsOf, Labelled};
+ghost use Rattle.moves.specs.Labels.{lagsOf, Labelled};
 ghost use Rattle.retime.specs.Moves.{Moves};
 ghost use Rattle.retime.specs.Retime.{Retimes, LagsFit};
 ghost use Rattle.retime.specs.Demand.{Demand3};

@@ -31,12 +31,13 @@ use Rattle.netlist.specs.Write.{textOf}
 use Rattle.simulate.specs.Clock.{inputs, outputs}
 use Rattle.simulate.specs.Step.{bits}
 use Rattle.simulate.specs.Run.{clocksFrom, clocks, runSays}
-use Rattle.retime.specs.Retime.{withRegs, movedNet, lagsOf, Room, eight, nine, eleven, done}
+use Rattle.moves.specs.Moved.{withRegs, movedNet}
+use Rattle.retime.specs.Retime.{lagsOf, Room, eight, nine, eleven, done}
 use Rattle.retime.specs.Demand.{tableLag}
 use Rattle.retime.specs.Theorems.{Enough}
 use Rattle.retime.specs.Card.{ClaimOf, Claim}
-use Rattle.retime.proofs.Rows.{rows-length, rows-in}
-use Rattle.retime.proofs.Moved.{with-same}
+use Rattle.moves.proofs.Rows.{rows-length, rows-in}
+use Rattle.moves.proofs.Moved.{with-same}
 use Rattle.retime.proofs.cards.Net.{netOf, graph-is, regs-is, delay-is, newRegs, resultOf, derive}
 use Rattle.retime.proofs.cards.Reads.{is-true, reads?, reads-yes}
 

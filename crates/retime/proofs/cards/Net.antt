@@ -25,7 +25,7 @@ use Rattle.netlist.specs.Answer.{whole, edge}
 use Rattle.netlist.specs.Net.{zeros, graphOf, regsOf, working, delayOf}
 use Rattle.netlist.specs.Write.{joined, textOf}
 use Rattle.netlist.proofs.Rows.{zeros-at}
-use Rattle.retime.specs.Retime.{withRegs}
+use Rattle.moves.specs.Moved.{withRegs}
 use Rattle.retime.specs.Card.{bytes, printed, Card, Result, back, refuses, runs, A, cards}
 
 abbrev padded : ℕ → List ℕ → List ℕ

@@ -7,7 +7,7 @@ use borrow.Author.Needs.{needs}
 use mir.Syntax.{w32}
 use mir.Facts.{toZ-pos, toZ-ofZ}
 use Rattle.lags.specs.Lags.{lagOf}
-use Rattle.retime.proofs.Labels.{lag-fits}
+use Rattle.moves.proofs.Labels.{lag-fits}
 use Rattle.retime.proofs.lag_of.Statement.{statement}
 use Rattle.retime.proofs.lag_of.Tie as tie
 

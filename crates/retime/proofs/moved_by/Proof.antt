@@ -13,9 +13,11 @@ use Rattle.netlist.specs.Net.{graphOf, regsOf}
 use Rattle.theory.specs.Gate.{gate}
 use Rattle.theory.specs.Move.{chosenIn, Best}
 use Rattle.theory.specs.Retimer.{Narrow, TooMany}
-use Rattle.retime.specs.Labels.{lagsOf}
-use Rattle.retime.specs.Moves.{Moving, Chooses, wide, many, startless, moved}
-use Rattle.retime.proofs.Labels.{low-edges, wide-edge, wide-none}
+use Rattle.moves.specs.Labels.{lagsOf}
+use Rattle.moves.specs.Moving.{Moving}
+use Rattle.choose.specs.Wires.{Chooses}
+use Rattle.retime.specs.Moves.{wide, many, startless, moved}
+use Rattle.moves.proofs.Labels.{low-edges, wide-edge, wide-none}
 use Rattle.retime.proofs.moved_by.Statement.{statement}
 use Rattle.retime.proofs.moved_by.Tie as tie
 

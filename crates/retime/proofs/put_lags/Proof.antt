@@ -10,9 +10,9 @@ use lib.ListN.{length, set, drop, length-append, length-drop}
 use mir.Syntax.{w32}
 use mir.Facts.{toZ-ofZ}
 use Rattle.netlist.specs.Write.{joined}
-use Rattle.retime.specs.Labels.{lagsOf}
-use Rattle.retime.proofs.Labels.{lag-fits}
-use Rattle.retime.proofs.Rows.{rows-length, rows-more}
+use Rattle.moves.specs.Labels.{lagsOf}
+use Rattle.moves.proofs.Labels.{lag-fits}
+use Rattle.moves.proofs.Rows.{rows-length, rows-more}
 use Rattle.retime.proofs.put_lags.Statement.{statement}
 use Rattle.retime.proofs.put_lags.Tie as tie
 

@@ -12,7 +12,7 @@ use Rattle.netlist.proofs.Run.{fit-rows}
 use Rattle.netlist.proofs.theorems.Sound.{read-is-sound}
 use Rattle.simulate.proofs.Ran.{reads-steppable}
 use Rattle.lags.proofs.Laws.{read-sure}
-use Rattle.retime.specs.Labels.{Labelled}
+use Rattle.moves.specs.Labels.{Labelled}
 use Rattle.retime.proofs.Answers.{retime-stop, reads, retime-short, retime-none, labelled, retime-refused, text-fits, retime-done}
 use Rattle.retime.proofs.retime.Statement.{statement}
 use Rattle.retime.proofs.retime.Tie as tie

@@ -32,11 +32,12 @@ use Rattle.netlist.proofs.theorems.Sound.{read-is-sound}
 use Rattle.simulate.specs.Run.{Runs}
 use Rattle.simulate.proofs.theorems.Some.{some-run}
 use Rattle.simulate.proofs.theorems.Alike.{runs-alike}
-use Rattle.retime.specs.Retime.{movedNet, LeastLags, lagsOf, Room, Retimes}
+use Rattle.moves.specs.Moved.{movedNet}
+use Rattle.retime.specs.Retime.{LeastLags, lagsOf, Room, Retimes}
 use Rattle.retime.specs.Demand.{Startable, Asked, ComesBack, tableLag, Came}
 use Rattle.retime.specs.Theorems.{Enough, DemandFollows}
-use Rattle.retime.proofs.Rows.{rows-at}
-use Rattle.retime.proofs.Lags.{count-alike, least-alike, best-alike}
+use Rattle.moves.proofs.Rows.{rows-at}
+use Rattle.moves.proofs.Lags.{count-alike, least-alike, best-alike}
 use Rattle.retime.proofs.Ends.{Fact, First, stageOf, End, Told, told-of, tell, told-at, before-done}
 use Rattle.retime.proofs.theorems.Moved.{same-length, moved-reads, moved-regs, moved-alike}
 

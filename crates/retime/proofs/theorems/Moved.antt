@@ -24,10 +24,10 @@ use Rattle.netlist.proofs.Run.{fit-rows}
 use Rattle.netlist.proofs.Written.{text-length}
 use Rattle.netlist.proofs.theorems.Lines.{lines-fact}
 use Rattle.netlist.proofs.theorems.Sound.{reads-value, read-is-sound}
-use Rattle.retime.specs.Retime.{movedNet}
+use Rattle.moves.specs.Moved.{movedNet}
 use Rattle.retime.specs.Theorems.{SameLength, MovedReads}
-use Rattle.retime.proofs.Lags.{regs-alike}
-use Rattle.retime.proofs.Moved.{with-same, with-regs, with-reads}
+use Rattle.moves.proofs.Lags.{regs-alike}
+use Rattle.moves.proofs.Moved.{with-same, with-regs, with-reads}
 
 -- A text's length depends on how many nodes and edges it has.
 pub same-length : SameLength

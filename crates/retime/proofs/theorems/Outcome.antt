@@ -24,7 +24,8 @@ use Rattle.netlist.proofs.Fits.{clash}
 use Rattle.netlist.proofs.theorems.One.{one-reading}
 use Rattle.netlist.proofs.theorems.Some.{some-reading}
 use Rattle.netlist.proofs.theorems.Sound.{read-is-sound, reads-value}
-use Rattle.retime.specs.Retime.{movedNet, lagsOf, Untouched, Room, Retimes, unread, twelve, eight, nine, ten, eleven, done}
+use Rattle.moves.specs.Moved.{movedNet}
+use Rattle.retime.specs.Retime.{lagsOf, Untouched, Room, Retimes, unread, twelve, eight, nine, ten, eleven, done}
 use Rattle.retime.specs.Theorems.{SomeOutcome, OneOutcome}
 use Rattle.retime.proofs.Ends.{Told, End, told, told-of, one-stage, untouched-alike, one-end}
 

@@ -21,7 +21,7 @@ use Rattle.netlist.proofs.theorems.One.{one-reading}
 use Rattle.netlist.proofs.theorems.Sound.{read-is-sound}
 use Rattle.retime.specs.Retime.{LeastLags, Untouched, Room, Retimes, unread, twelve, eight, nine, ten, eleven, done}
 use Rattle.retime.specs.Theorems.{Enough, RetimeFacts, RefusalFacts, UnreadFact, NothingTouched}
-use Rattle.retime.proofs.Lags.{count-alike, chosen-alike, no-start-alike}
+use Rattle.moves.proofs.Lags.{count-alike, chosen-alike, no-start-alike}
 use Rattle.retime.proofs.Ends.{Fact, stageOf, End, Told, told, told-of, tell, told-at, lowest-one, before-8, before-9, before-10, before-11}
 
 module _ (t out : List ℕ) (lags : List ℤ) (s : Says) (out′ : List ℕ) (lags′ : List ℤ) (net : Netlist)

@@ -1,0 +1,119 @@
+-- The columns that the functions of `cells` leave are the program of the moved netlist.
+--   celled              the numbered cells, as what is wanted of them asks for
+--   compiled            specs/Cells' `Compiled`
+-- Assumes nothing.
+use Prim.Native.Nat.{ℕ, zero, suc, _+_, _*_, _-_, _/_, _%_, _≤_, _<_}
+use native.Mathlib.Omega.{arith}
+use native.Mathlib.Numerals.{add-one}
+use mathlib.Core.Path.{_≡_, refl, sym, ap, ap₂, _∙_}
+use mathlib.Core.Bool.{cond}
+use mathlib.Core.Logic.{inl}
+use mathlib.Core.List.{List, _∷_, map}
+use lib.Dec.{ltb}
+use lib.ListN.{length, take, drop}
+use lib.Seq.{drop-cons}
+use Rattle.theory.specs.Clock.{gather}
+use Rattle.theory.specs.Move.{sum}
+use Rattle.theory.proofs.clocks.Seen.{gather-same}
+use Rattle.graph.specs.Columns.{at}
+use Rattle.graph.specs.Sort.{group, sorted, Sorts}
+use Rattle.graph.proofs.Sorted.{sorted-part}
+use Rattle.netlist.specs.declared.Netlist.{Netlist}
+use Rattle.netlist.proofs.Run.{fit-wired}
+use Rattle.solve.specs.Program.{operandsOf}
+use Rattle.choose.specs.Cells.{source, Compiled}
+use Rattle.moves.specs.Labels.{lagsOf, Labelled, Counts, Bases}
+use Rattle.choose.specs.Numbers.{lagAt, Arranged, Numbered}
+use Rattle.choose.specs.Sources.{sourceAt, widthAt, Operands}
+use Rattle.choose.specs.Wants.{Celled, Wants}
+use Rattle.moves.proofs.Labels.{low-nodes, sum-more, sum-grows}
+use Rattle.choose.proofs.Compiles.{gather-map}
+use Rattle.choose.proofs.Enters.{all-edges, ins-at, width}
+
+pub celled : (lag : ℕ → ℕ) (order : List ℕ) (nodes cells : ℕ) (id code : List ℕ) → nodes ≤ 512 → ((v : ℕ) → v < nodes → lag v ≤ 24)
+    → Numbered lag order nodes 24 0 cells id code → Celled lag nodes cells id code
+celled lag order nodes cells id code few low n = record {
+  few = omega (arith, n .few);
+  nodes-few = few;
+  low = low;
+  inside = λ v t hv ht. n .inside v t hv ht (inl (let z : t < 24 = omega (arith, low v hv) in z));
+  back = λ v t hv ht. n .back v t hv ht (inl (let z : t < 24 = omega (arith, low v hv) in z));
+}
+
+part-map : (f : ℕ → ℕ) (xs ys : List ℕ) (n a b : ℕ) → a + n ≤ length ys → b + n ≤ length xs → ((k : ℕ) → k < n → at ys (a + k) ≡ f (at xs (b + k)))
+    → take n (drop a ys) ≡ map f (take n (drop b xs))
+part-map f xs ys zero a b h l w = refl
+part-map f xs ys (suc n) a b h l w =
+    rw (drop-cons xs b 0 (omega arith), drop-cons ys a 0 (omega arith))
+    (ap₂ _∷_ (subst₂-zero (w 0 (omega arith)))
+    (part-map f xs ys n (suc a) (suc b) (omega arith) (omega arith)
+    (λ k m. ap (at ys) (let z : suc a + k ≡ a + suc k = omega arith in z) ∙ w (suc k) (omega arith) ∙ ap (λ i. f (at xs i)) (let z : b + suc k ≡ suc b + k = omega arith in z))))
+  where
+    subst₂-zero : at ys (a + 0) ≡ f (at xs (b + 0)) → at ys a ≡ f (at xs b)
+    subst₂-zero q = ap (at ys) (let z : a ≡ a + 0 = omega arith in z) ∙ q ∙ ap (λ i. f (at xs i)) (let z : b + 0 ≡ b = omega arith in z)
+
+module _ (net : Netlist) (lab counts base order id code old ins begin kind first operand want : List ℕ) (cells : ℕ) (s : Labelled net lab)
+    (c : Counts net lab counts) (b : Bases net lab base) (o : Arranged order (net .nodes)) (low : (v : ℕ) → v < net .nodes → lagAt lab v ≤ 24)
+    (n : Numbered (lagAt lab) order (net .nodes) 24 0 cells id code)
+    (room : net .edges ≤ length old) (st : Sorts (net .to) (net .edges) (net .nodes) old ins begin)
+    (ks : (i : ℕ) → i < cells → at kind i ≡ at (net .kind) (at code i / 32))
+    (os : Operands (net .from) ins begin counts base id code cells first operand) (rows : sum (widthAt begin code) cells ≤ length operand)
+    (ws : Wants net (lagAt lab) id want (net .edges)) where
+  cell : ℕ → ℕ → ℕ
+  cell v t = at id (v * 32 + t)
+
+  okay : Celled (lagAt lab) (net .nodes) cells id code
+  okay = celled (lagAt lab) order (net .nodes) cells id code (low-nodes net lab s) low n
+
+  node-of : (v t : ℕ) → v < net .nodes → t < lagAt lab v → at code (cell v t) / 32 ≡ v
+  unfolding cell
+  node-of v t hv ht = omega (arith, okay .back v t hv ht, low v hv)
+
+  clock-of : (v t : ℕ) → v < net .nodes → t < lagAt lab v → at code (cell v t) % 32 ≡ t
+  unfolding cell
+  clock-of v t hv ht = omega (arith, okay .back v t hv ht, low v hv)
+
+  source-is : (t e : ℕ) → e < net .edges → sourceAt (net .from) counts base id t e ≡ source net (lagsOf lab) cell t e
+  unfolding sourceAt cell
+  source-is t e h = ap₂ (λ m a. cond (ltb t m) (a + t) (32 + at id (at (net .from) e * 32 + (t - m)))) (c e h) (b e (omega arith))
+
+  inside : (e : ℕ) → e < net .edges → at (net .to) e < net .nodes
+  inside = fit-wired net (s .fit) .dst-in
+
+  shown : (v t : ℕ) → v < net .nodes → t < lagAt lab v → operandsOf first operand (cell v t) ≡ gather (at (net .to)) (source net (lagsOf lab) cell t) v (net .edges)
+  unfolding cell
+  shown v t hv ht =
+      let i = cell v t in
+      let hi : i < cells = okay .inside v t hv ht in
+      let d : at code i / 32 ≡ v = node-of v t hv ht in
+      let w = width (net .to) (net .edges) (net .nodes) old ins begin inside room st v hv in
+      let all = sorted (net .to) (net .edges) (net .nodes) in
+      let every = all-edges (net .to) (net .edges) (net .nodes) old ins begin inside room st in
+      let f : ℕ → ℕ = sourceAt (net .from) counts base id t in
+      let m : ℕ = length (group (net .to) v (net .edges)) in
+      let size : widthAt begin code i ≡ m = ap (λ u. at begin (u + 1) - at begin u) d ∙ w .2 in
+      let first-i : at first i ≡ sum (widthAt begin code) i = os .begins i (omega arith) in
+      let next-i : at first (suc i) ≡ sum (widthAt begin code) i + widthAt begin code i = ap (at first) (sym (add-one i)) ∙ os .begins (i + 1) (omega arith) ∙ sum-more (widthAt begin code) i in
+      let grow = sum-grows (widthAt begin code) (i + 1) cells (omega arith) in
+      let more = sum-more (widthAt begin code) i in
+      let take-is : at first (suc i) - at first i ≡ m = omega (arith, first-i, next-i, size) in
+      ap₂ (λ x y. take x (drop y operand)) take-is first-i
+      ∙ part-map f all operand m (sum (widthAt begin code) i) (at begin v) (omega (arith, rows, grow, more, size)) (omega (arith, every, w .0, w .1, w .2))
+      (λ k l. os .shown i hi k (omega (arith, size)) ∙ ap₂ (λ x u. sourceAt (net .from) counts base id x (at ins (at begin u + k))) (clock-of v t hv ht) d
+      ∙ ap f (ins-at (net .to) (net .edges) (net .nodes) old ins begin inside room st (at begin v + k) (omega (arith, w .0, w .1, w .2))))
+      ∙ ap (λ y. map f (take m (drop y all))) (st .begins v (omega arith))
+      ∙ ap (map f) (sorted-part (net .to) (net .edges) v (net .nodes) hv)
+      ∙ gather-map f (at (net .to)) (λ e. e) v (net .edges)
+      ∙ gather-same (at (net .to)) f (source net (lagsOf lab) cell t) v (net .edges) (λ e h q. source-is t e h)
+
+  pub compiled : Compiled net (lagsOf lab) cells kind first operand want (λ v t. at id (v * 32 + t))
+  unfolding cell
+  compiled = record {
+    inside = okay .inside;
+    every = λ i h.
+        let k = n .each i h in
+        (at order (k .place), k .clock, o .nodes-only (k .place) (k .within), k .below, k .number);
+    kinds = λ v t hv ht. ks (cell v t) (okay .inside v t hv ht) ∙ ap (at (net .kind)) (node-of v t hv ht);
+    operands = shown;
+    wants = ws .wants;
+  }

@@ -1,0 +1,210 @@
+-- The program that stands for a moved netlist's search (specs/Cells): its cells have the values that the nodes have below their lags, so a search through the program is one through the choices.
+--   gather-map, gather-at      a list made of what is gathered; a place in it
+--   after, given        the moved netlist's registers, and its values with all inputs at 0
+--   source-before       the cells that are a cell's operands stand before it
+--   edge-shows          the operand that stands for an edge shows what the edge shows
+--   cell-value          the cell of node v at clock t has v's value at t in the moved netlist
+--   compiled-holds      the cells give what is wanted exactly where the choice carries the start
+--   solved-best, solved-none    so the program's answer is retiming's
+-- Assumes nothing.
+use Prim.Native.Nat.{ℕ, zero, suc, _+_, _^_, _<_, _≤_}
+use native.Mathlib.Omega.{arith}
+use native.Mathlib.Decide.{ℕ-discrete}
+use mathlib.Core.Path.{_≡_, refl, sym, ap, ap₂, _∙_, subst}
+use mathlib.Core.Bool.{true, false}
+use mathlib.Core.Logic.{⊎-elim, _⊎_, _↔_}
+use mathlib.Core.List.{List, [], _∷_, _++_, map, map-append}
+use borrow.Author.Tests.{lt-ltb, le-ltb}
+use lib.IntN.{ℤ}
+use lib.ListN.{length, length-append, List·getD-append}
+use lib.Seq.{getD-at}
+use Rattle.theory.specs.Clock.{Regs, seen, gather, sees, value}
+use Rattle.theory.specs.Lag.{up, down, newCount, Legal}
+use Rattle.theory.specs.Move.{Moved, move, quiet, Carried, sum, chosenOn, chosenIn, digit, choiceOf, Best}
+use Rattle.theory.specs.Gate.{gate}
+use Rattle.theory.specs.Retimer.{Sound, NoStart, retimed}
+use Rattle.theory.proofs.numbers.Whole.{no-down}
+use Rattle.theory.proofs.numbers.Sums.{sum-within}
+use Rattle.theory.proofs.clocks.Seen.{seen-is, gather-same}
+use Rattle.theory.proofs.clocks.Trace.{clock-induction}
+use Rattle.theory.proofs.moves.Retime.{new-moved, new-no-loop, new-trace}
+use Rattle.theory.proofs.moves.Choose.{choice-number}
+use Rattle.graph.specs.Columns.{at}
+use Rattle.netlist.specs.declared.Netlist.{Netlist}
+use Rattle.netlist.specs.Net.{graphOf, regsOf}
+use Rattle.simulate.proofs.Lists.{gather-hit, gather-miss}
+use Rattle.solve.specs.Program.{look, valuesTo, valueAt, Program, Holds, Solves}
+use Rattle.choose.specs.Cells.{source, Compiled}
+use Rattle.choose.proofs.Programs.{look-bit, look-cell, values-at, value-gate, value-bit, operand-at}
+
+-- ── What is gathered ────────────────────────────────────────────────────────────────────────
+
+pub gather-map : (g dst f : ℕ → ℕ) (v n : ℕ) → map g (gather dst f v n) ≡ gather dst (λ e. g (f e)) v n
+unfolding gather
+gather-map g dst f v zero = refl
+gather-map g dst f v (suc n) = go (ℕ-discrete (dst n) v) (gather-map g dst f v n)
+  where
+    go : Dec (dst n ≡ v) → map g (gather dst f v n) ≡ gather dst (λ e. g (f e)) v n → map g (gather dst f v (suc n)) ≡ gather dst (λ e. g (f e)) v (suc n)
+    go (yes q) r =
+        ap (map g) (gather-hit dst f v n q) ∙ map-append g (gather dst f v n) (f n ∷ []) ∙ ap (λ l. l ++ (g (f n) ∷ [])) r
+        ∙ sym (gather-hit dst (λ e. g (f e)) v n q)
+    go (no q) r = ap (map g) (gather-miss dst f v n q) ∙ r ∙ sym (gather-miss dst (λ e. g (f e)) v n q)
+
+-- An edge that enters v has a place in the list.
+pub gather-at : (dst f : ℕ → ℕ) (v n e : ℕ) → e < n → dst e ≡ v → (p : ℕ) × (p < length (gather dst f v n)) × (at (gather dst f v n) p ≡ f e)
+gather-at dst f v zero e h d = absurd (let z : ⊥ = omega arith in z)
+gather-at dst f v (suc n) e h d = go (ℕ-discrete e n) (ℕ-discrete (dst n) v) (gather-at dst f v n e)
+  where
+    Place : ℕ → Type 0
+    Place m = (p : ℕ) × (p < length (gather dst f v m)) × (at (gather dst f v m) p ≡ f e)
+
+    go : Dec (e ≡ n) → Dec (dst n ≡ v) → (e < n → dst e ≡ v → Place n) → Place (suc n)
+    go (yes q) (no o) r = absurd (o (ap dst (sym q) ∙ d))
+    go (yes q) (yes o) r =
+        let l = gather dst f v n in (
+          length l,
+          rw (gather-hit dst f v n o) (simp length-append (omega arith)),
+          ap (λ m. at m (length l)) (gather-hit dst f v n o) ∙ getD-at l (f n) [] 0 (length l) refl ∙ ap f (sym q),
+        )
+    go (no q) (no o) r = rw (gather-miss dst f v n o) (r (omega arith) d)
+    go (no q) (yes o) r =
+        let (p, h, k) = r (omega arith) d in
+        let l = gather dst f v n in (
+          p,
+          rw (gather-hit dst f v n o) (simp length-append (omega arith)),
+          ap (λ m. at m p) (gather-hit dst f v n o) ∙ List·getD-append l (f n ∷ []) 0 p h ∙ k,
+        )
+
+-- ── The values of the cells ─────────────────────────────────────────────────────────────────
+
+-- The moved netlist's registers, and its values with all inputs at 0.
+abbrev pub after : Netlist → (ℕ → ℤ) → ℕ → Regs
+after net r c = retimed gate (graphOf net) (regsOf net) r c
+
+abbrev pub given : Netlist → (ℕ → ℤ) → ℕ → ℕ → ℕ → ℕ
+given net r c = value gate (graphOf net) (after net r c) quiet
+
+module _ (net : Netlist) (ok : Sound gate (graphOf net) (regsOf net)) (r : ℕ → ℤ) (legal : Legal (graphOf net) (regsOf net .count) r)
+    {cells k : ℕ} {kind first operand want : List ℕ} {cell : ℕ → ℕ → ℕ} (made : Compiled net r cells kind first operand want cell)
+    (size : k ≡ chosenIn (graphOf net) (regsOf net .count) r) (right : Program cells k kind first operand want) where
+  moved : (c : ℕ) → Moved (graphOf net) (regsOf net) (after net r c) r (choiceOf (graphOf net) (regsOf net .count) r c) (value gate (graphOf net) (regsOf net) quiet)
+  moved c = new-moved gate (graphOf net) (ok .wired) (regsOf net) (ok .no-loop) r legal (choiceOf (graphOf net) (regsOf net .count) r c)
+
+  -- The cell of a source stands before the cell that it is an operand of: an operand of 32 or more is one cell's, and an earlier one's.
+  pub source-before : (v t e x : ℕ) → v < net .nodes → t < up (r v) → e < net .edges → graphOf net .dst e ≡ v → source net r cell t e ≡ 32 + x → x < cell v t
+  source-before v t e x hv ht he d q =
+      let i = cell v t in
+      let (p, h, w) = gather-at (graphOf net .dst) (source net r cell t) v (net .edges) e he d in
+      let row = made .operands v t hv ht in
+      let o = operand-at first operand i p (rw row h) in
+      let z : at operand (at first i + p) ≡ 32 + x = o .1 ∙ ap (λ l. at l p) row ∙ w ∙ q in
+      ⊎-elim
+      (λ (l : at operand (at first i + p) < k). absurd (let z : ⊥ = omega (arith, right .few-bits) in z))
+      (λ (l : (32 ≤ at operand (at first i + p)) × (at operand (at first i + p) < 32 + i)). omega (arith, l .1))
+      (right .earlier i (at first i + p) (made .inside v t hv ht) (omega arith) (o .0))
+
+  -- Below the lag of the node that it enters, an edge shows a chosen value while its registers last, and the operand is that value's number; then it shows its source,
+  -- at a clock below the source's own lag, and the operand is that cell.
+  pub edge-shows : (c v t e : ℕ) → v < net .nodes → t < up (r v) → e < net .edges → graphOf net .dst e ≡ v
+      → ((q : ℕ) → after net r c .count e + q ≡ t → q < up (r (graphOf net .src e))
+      → valueAt kind first operand k c (cell (graphOf net .src e) q) ≡ given net r c (graphOf net .src e) q)
+      → look k c (valuesTo kind first operand k c (cell v t)) (source net r cell t e) ≡ seen (graphOf net) (after net r c) (given net r c) e t
+  unfolding move
+  edge-shows c v t e hv ht he d ih =
+      sym (seen-is (graphOf net) (after net r c) (given net r c) e t (look k c vals (source net r cell t e)) early late)
+    where
+      vals : List ℕ
+      vals = valuesTo kind first operand k c (cell v t)
+
+      N : ℕ
+      N = newCount (graphOf net) (regsOf net .count) r e
+
+      before : ℕ
+      before = sum (chosenOn (graphOf net) (regsOf net .count) r) e
+
+      lag : t < up (r (graphOf net .dst e))
+      lag = subst (λ u. t < up (r u)) (sym d) ht
+
+      one-sided : down (r (graphOf net .dst e)) ≡ 0
+      one-sided = no-down (r (graphOf net .dst e)) (omega (arith, lag))
+
+      early : t < N → after net r c .start e t ≡ look k c vals (source net r cell t e)
+      early h =
+          let z : source net r cell t e ≡ before + t = rw (lt-ltb t N h) in
+          let l = sum-within (chosenOn (graphOf net) (regsOf net .count) r) (net .edges) e t he (omega (arith, lag)) in
+          moved c .chosen e t he h (omega (arith, lag, one-sided))
+          ∙ ap (λ n. digit n c (before + t)) (sym size)
+          ∙ sym (look-bit k c vals (before + t) (omega (arith, right .few-bits)))
+          ∙ ap (look k c vals) (sym z)
+
+      late : (q : ℕ) → N + q ≡ t → given net r c (graphOf net .src e) q ≡ look k c vals (source net r cell t e)
+      late q h =
+          let i = cell (graphOf net .src e) q in
+          let z : source net r cell t e ≡ 32 + i = rw (le-ltb t N (omega arith)) (ap (λ n. 32 + cell (graphOf net .src e) n) (omega arith)) in
+          sym (ih q h (omega (arith, lag, one-sided, moved c .counts e he)))
+          ∙ sym (values-at kind first operand k c (cell v t) i (source-before v t e i hv ht he d z))
+          ∙ sym (look-cell k c vals i)
+          ∙ ap (look k c vals) (sym z)
+
+  -- By induction on the clock and, within it, on the order of the nodes, in the moved netlist, which has no loop without a register. A node of positive lag is no pin,
+  -- so its value is its gate's over what it sees, and so is its cell's.
+  pub cell-value : (c v t : ℕ) → v < net .nodes → t < up (r v) → valueAt kind first operand k c (cell v t) ≡ value gate (graphOf net) (retimed gate (graphOf net) (regsOf net) r c) quiet v t
+  unfolding sees move
+  cell-value c =
+      clock-induction (graphOf net) (ok .wired) (after net r c) (new-no-loop gate (graphOf net) (ok .wired) (regsOf net) (ok .no-loop) r legal choice)
+      (λ v t. t < up (r v) → valueAt kind first operand k c (cell v t) ≡ given net r c v t) step
+    where
+      choice : ℕ → ℕ → ℕ
+      choice = choiceOf (graphOf net) (regsOf net .count) r c
+
+      step : (v t : ℕ) → v < net .nodes
+          → ((e q : ℕ) → e < net .edges → graphOf net .dst e ≡ v → after net r c .count e + q ≡ t → q < up (r (graphOf net .src e))
+          → valueAt kind first operand k c (cell (graphOf net .src e) q) ≡ given net r c (graphOf net .src e) q)
+          → t < up (r v) → valueAt kind first operand k c (cell v t) ≡ given net r c v t
+      step v t hv ih ht =
+          let show = look k c (valuesTo kind first operand k c (cell v t)) in
+          value-gate kind first operand k c (cell v t)
+          ∙ ap₂ (λ n l. gate n (map show l)) (made .kinds v t hv ht) (made .operands v t hv ht)
+          ∙ ap (gate (graphOf net .kind v))
+          (gather-map show (graphOf net .dst) (source net r cell t) v (net .edges)
+          ∙ gather-same (graphOf net .dst) _ _ v (net .edges) (λ e he d. edge-shows c v t e hv ht he d (λ q. ih e q he d)))
+          ∙ sym (new-trace gate (graphOf net) (ok .wired) (regsOf net) (ok .no-loop) r legal choice quiet .at-gate v t hv
+          (λ z. absurd (let y : ⊥ = omega (arith, ap up (legal .pinned v hv (omega arith))) in y)))
+
+  -- ── The program's answer ──────────────────────────────────────────────────────────────────
+
+  -- A cell's value is a bit, so `wants` says what is wanted of it: that the node gives each start value that it has to give at that clock.
+  -- Every clock at which a node has to give one lies below its lag, so it has a cell; and every cell is some node's.
+  pub compiled-holds : (c : ℕ) → Holds cells k kind first operand want c ↔ Carried gate (graphOf net) (regsOf net) r (choiceOf (graphOf net) (regsOf net .count) r c)
+  compiled-holds c = (forth, back)
+    where
+      x : ℕ → ℕ → ℕ
+      x v t = valueAt kind first operand k c (cell v t)
+
+      forth : Holds cells k kind first operand want c → Carried gate (graphOf net) (regsOf net) r (choiceOf (graphOf net) (regsOf net .count) r c)
+      forth holds e s t he hs p =
+          let v = graphOf net .src e in
+          let hv = ok .wired .src-in e he in
+          let ht : t < up (r v) = omega arith in
+          sym (cell-value c v t hv ht)
+          ∙ made .wants v t (x v t) hv ht (value-bit kind first operand k c (cell v t)) .0 (holds (cell v t) (made .inside v t hv ht)) e s he refl hs p
+
+      back : Carried gate (graphOf net) (regsOf net) r (choiceOf (graphOf net) (regsOf net .count) r c) → Holds cells k kind first operand want c
+      back carried i h =
+          let (v, t, hv, ht, q) = made .every i h in
+          subst (λ j. (at want j ≡ 2) ⊎ (at want j ≡ valueAt kind first operand k c j)) q
+          (made .wants v t (x v t) hv ht (value-bit kind first operand k c (cell v t)) .1
+          (λ e s he d hs p. cell-value c v t hv ht ∙ ap (λ u. given net r c u t) (sym d) ∙ carried e s t he hs (omega (arith, ap (λ u. up (r u)) d))))
+
+  pub solved-best : (c : ℕ) → Solves cells k kind first operand want true c → Best gate (graphOf net) (regsOf net) r c
+  solved-best c s = record {
+    small = subst (λ n. c < 2 ^ n) size (s .0);
+    carried = compiled-holds c .0 (s .1);
+    first = λ d h carried. s .2 d h (compiled-holds d .1 carried);
+  }
+
+  -- A choice of bits is, where it is looked at, a number below 2 ^ k (`choice-number`).
+  pub solved-none : (c : ℕ) → Solves cells k kind first operand want false c → NoStart gate (graphOf net) (regsOf net) r
+  solved-none c s choice bits carried =
+      let n = choice-number gate (graphOf net) (ok .wired) (regsOf net) (ok .no-loop) r legal choice (λ e t he ht. bits e t) carried in
+      s (n .0) (subst (λ m. n .0 < 2 ^ m) (sym size) (n .1)) (compiled-holds (n .0) .1 (n .2))

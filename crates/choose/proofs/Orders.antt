@@ -1,0 +1,55 @@
+-- The evaluation order of the moved netlist.
+--   loop-kinds          gate kinds make no loop
+--   moved-no-loop       the moved netlist has no loop without a register
+--   ordered-counts      an order depends on which counts are 0
+--   low-count           no edge has more than 32 registers
+-- Assumes nothing.
+use Prim.Native.Nat.{ℕ, suc, _+_, _≤_, _<_}
+use native.Mathlib.Omega.{arith}
+use mathlib.Core.Path.{_≡_, refl, sym, ap, _∙_}
+use mathlib.Core.List.{List}
+use Rattle.theory.specs.Walk.{Walk, one, more, registers, steps, Loop}
+use Rattle.theory.specs.Lag.{newCount}
+use Rattle.theory.proofs.walks.Walks.{loop-shift}
+use Rattle.theory.proofs.labels.Bias.{legal-shifts}
+use Rattle.graph.specs.Columns.{at, graph}
+use Rattle.graph.specs.Sort.{Ordered}
+use Rattle.netlist.specs.declared.Netlist.{Netlist}
+use Rattle.netlist.specs.Net.{graphOf, regsOf}
+use Rattle.netlist.proofs.Fits.{edge-fits}
+use Rattle.moves.specs.Labels.{lagsOf, Labelled, Counts}
+use Rattle.moves.proofs.Lags.{registers-alike}
+
+module _ (n m : ℕ) (k k′ from to : List ℕ) (count : ℕ → ℕ) where
+  walk-kinds : {u v : ℕ} → (p : Walk (graph n m k from to) u v)
+      → (q : Walk (graph n m k′ from to) u v) × (steps q ≡ steps p) × (registers count q ≡ registers count p)
+  unfolding steps registers
+  walk-kinds (one h) = (one h, refl, refl)
+  walk-kinds (more e h p) = let w = walk-kinds p in (more e h (w .0), ap suc (w .1), ap (λ r. r + count e) (w .2))
+
+  pub loop-kinds : Loop (graph n m k from to) count → Loop (graph n m k′ from to) count
+  loop-kinds l =
+      let w = walk-kinds (l .walk) in
+      record { node = l .node; walk = w .0; moves = omega (arith, l .moves, w .1); bare = w .2 ∙ l .bare }
+
+pub moved-no-loop : (net : Netlist) (lab counts : List ℕ) → Labelled net lab → Counts net lab counts → ¬ Loop (graphOf net) (regsOf net .count)
+    → (bytes : List ℕ) → ((e : ℕ) → e < net .edges → at bytes e ≡ at counts e)
+    → (kind : List ℕ) → ¬ Loop (graph (net .nodes) (net .edges) kind (net .from) (net .to)) (at bytes)
+moved-no-loop net lab counts s c none bytes same kind l =
+    let o = loop-kinds (net .nodes) (net .edges) kind (net .kind) (net .from) (net .to) (at bytes) l in
+    let G = graphOf net in
+    let new : ℕ → ℕ = newCount G (regsOf net .count) (lagsOf lab) in
+    none (loop-shift (regsOf net .count) new (lagsOf lab) (legal-shifts G (regsOf net .count) (lagsOf lab) (s .legal))
+    (record { node = o .node; walk = o .walk; moves = o .moves; bare = sym (registers-alike (at bytes) new (λ e h. same e h ∙ c e h) (o .walk)) ∙ o .bare }))
+
+pub ordered-counts : (nodes edges : ℕ) (from to bytes counts order : List ℕ) → ((e : ℕ) → e < edges → at bytes e ≡ at counts e)
+    → Ordered nodes edges from to bytes order → Ordered nodes edges from to counts order
+ordered-counts nodes edges from to bytes counts order same o = record {
+  nodes-only = o .nodes-only;
+  every-node = o .every-node;
+  sources-first = λ p e hp he q z. o .sources-first p e hp he q (same e he ∙ z);
+}
+
+pub low-count : (net : Netlist) (lab : List ℕ) → Labelled net lab → (e : ℕ) → e < net .edges → at (net .count) e ≤ 32
+low-count net lab s e h =
+    edge-fits (net .nodes) (graphOf net .kind) (at (net .from) e) (at (net .to) e) (at (net .count) e) (at (net .start) e) (s .fit .edge e h) .2

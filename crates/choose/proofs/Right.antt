@@ -1,0 +1,188 @@
+-- The cells put together: what `choose` asks of its parts, and that they are a right program.
+--   size, low-lag       how many values are chosen; no lag is above 24
+--   arranged, okay      the order has each node once; the cells are numbered
+--   ready, wirable      every cell's operands can be read: what `operands_of` and `wire` ask for
+--   right               the columns are a right program: what `solve` asks for
+--   chooses             what `solve` says is retiming's
+-- Assumes nothing.
+use Prim.Native.Nat.{ℕ, suc, _+_, _*_, _-_, _/_, _%_, _≤_, _<_}
+use native.Mathlib.Omega.{arith}
+use native.Mathlib.Numerals.{add-one}
+use native.Mathlib.Decide.{ℕ-discrete, decLt}
+use mathlib.Core.Path.{_≡_, sym, subst, ap, _∙_}
+use mathlib.Core.Bool.{Bool, true, false}
+use mathlib.Core.Logic.{_⊎_, inl, inr}
+use mathlib.Core.List.{List}
+use borrow.Author.Tests.{lt-ltb, le-ltb}
+use lib.ListN.{length}
+use Rattle.theory.specs.Lag.{up}
+use Rattle.theory.specs.Move.{sum, chosenIn}
+use Rattle.theory.proofs.numbers.Whole.{no-down}
+use Rattle.theory.proofs.numbers.Sums.{sum-within}
+use Rattle.theory.proofs.retimer.Levels.{lag-chosen}
+use Rattle.graph.specs.Columns.{at}
+use Rattle.graph.specs.Sort.{group, Ordered}
+use Rattle.graph.proofs.Sorted.{sorted-room}
+use Rattle.netlist.specs.declared.Netlist.{Netlist}
+use Rattle.netlist.specs.Net.{graphOf, regsOf}
+use Rattle.netlist.proofs.Run.{fit-wired}
+use Rattle.simulate.proofs.Plans.{kind-low, fan-low}
+use Rattle.solve.specs.Program.{Program, Solves}
+use Rattle.choose.specs.Cells.{Compiled}
+use Rattle.moves.specs.Labels.{lagsOf, chosenAt}
+use Rattle.choose.specs.Numbers.{lagAt, Arranged, Before, CellAt, Numbered}
+use Rattle.choose.specs.Sources.{sourceAt, Shows, widthAt, Ready, Operands}
+use Rattle.choose.specs.Wants.{Celled, Wants}
+use Rattle.moves.specs.Moving.{Moving}
+use Rattle.choose.specs.Wires.{Chooses, Entering, Wirable}
+use Rattle.moves.proofs.Labels.{from-node, low-nodes, low-edges, sum-more, sum-grows}
+use Rattle.choose.proofs.Numbers.{ordered-arranged}
+use Rattle.choose.proofs.Columns.{celled, compiled}
+use Rattle.choose.proofs.Compiles.{solved-best, solved-none}
+use Rattle.choose.proofs.Enters.{width, entered}
+use Rattle.choose.proofs.Widths.{few-operands}
+
+module _ (net : Netlist) (lab counts base : List ℕ) (k : ℕ) (m : Moving net lab counts base k) where
+  pub size : k ≡ chosenIn (graphOf net) (regsOf net .count) (lagsOf lab)
+  size = m .chosen ∙ m .based (net .edges) (omega arith)
+
+  -- No lag is above the number of values chosen.
+  pub low-lag : (v : ℕ) → v < net .nodes → lagAt lab v ≤ 24
+  low-lag v h = omega (arith, m .few, size, lag-chosen (graphOf net) (regsOf net .count) (lagsOf lab) (m .labelled .legal) (m .sure .fed) v h)
+
+  -- Once its registers are spent, an edge shows its source at a clock below the source's own lag.
+  source-lag : (t e : ℕ) → e < net .edges → t < lagAt lab (at (net .to) e) → at counts e ≤ t → t - at counts e < lagAt lab (at (net .from) e)
+  source-lag t e h l q =
+      omega (arith, m .counted e h, m .labelled .legal .fits e h, no-down (lagsOf lab (at (net .to) e)) (let z : 0 < up (lagsOf lab (at (net .to) e)) = omega arith in z))
+
+  -- A chosen value has a number below k.
+  number-low : (t e : ℕ) → e < net .edges → t < lagAt lab (at (net .to) e) → t < at counts e → at base e + t < k
+  number-low t e h l q =
+      let c : t < chosenAt net lab e = omega (arith, m .counted e h) in
+      omega (arith, m .based e (omega arith), size, sum-within (chosenAt net lab) (net .edges) e t h c)
+
+  base-low : (e : ℕ) → e < net .edges → at base e ≤ k
+  base-low e h = omega (arith, m .based e (omega arith), size, sum-grows (chosenAt net lab) e (net .edges) (omega arith))
+
+  pub arranged : (order : List ℕ) → net .nodes ≤ length order → Ordered (net .nodes) (net .edges) (net .from) (net .to) counts order → Arranged order (net .nodes)
+  arranged order rows o = ordered-arranged (net .nodes) (net .edges) (net .from) (net .to) counts order (low-nodes net lab (m .labelled)) rows o
+
+  module _ (order id code : List ℕ) (cells : ℕ) (rows : net .nodes ≤ length order)
+      (o : Ordered (net .nodes) (net .edges) (net .from) (net .to) counts order) (n : Numbered (lagAt lab) order (net .nodes) 24 0 cells id code) where
+    pub okay : Celled (lagAt lab) (net .nodes) cells id code
+    okay = celled (lagAt lab) order (net .nodes) cells id code (low-nodes net lab (m .labelled)) low-lag n
+
+    node-of : (i : ℕ) (h : i < cells) → at code i / 32 ≡ at order (n .each i h .place)
+    node-of i h = let c = n .each i h in omega (arith, c .coded, c .below, low-lag (at order (c .place)) (o .nodes-only (c .place) (c .within)))
+
+    clock-of : (i : ℕ) (h : i < cells) → at code i % 32 ≡ n .each i h .clock
+    clock-of i h = let c = n .each i h in omega (arith, c .coded, c .below, low-lag (at order (c .place)) (o .nodes-only (c .place) (c .within)))
+
+    pub node-low : (i : ℕ) → i < cells → at code i / 32 < net .nodes
+    node-low i h = let c = n .each i h in subst (λ v. v < net .nodes) (sym (node-of i h)) (o .nodes-only (c .place) (c .within))
+
+    clock-low : (i : ℕ) → i < cells → at code i % 32 < lagAt lab (at code i / 32)
+    clock-low i h = let c = n .each i h in rw (node-of i h, clock-of i h) (c .below)
+
+    -- A source's cell stands earlier: at an earlier clock, or at the same clock at an earlier place of the order.
+    source-earlier : (i e : ℕ) → i < cells → e < net .edges → at (net .to) e ≡ at code i / 32 → at counts e ≤ at code i % 32
+        → at id (at (net .from) e * 32 + (at code i % 32 - at counts e)) < i
+    source-earlier i e h he q l =
+        let c = n .each i h in
+        let t = at code i % 32 in
+        c .earlier (at (net .from) e) (t - at counts e) (from-node net lab (m .labelled) e he)
+        (source-lag t e he (subst (λ v. t < lagAt lab v) (sym q) (clock-low i h)) l) (go c (ℕ-discrete (at counts e) 0))
+      where
+        go : (c : CellAt (lagAt lab) order (net .nodes) id code 24 0 i) → Dec (at counts e ≡ 0) → Before order (n .each i h .clock) (n .each i h .place) (at (net .from) e) (at code i % 32 - at counts e)
+        go c (yes z) = inr ((let y : at code i % 32 - at counts e ≡ n .each i h .clock = omega (arith, clock-of i h) in y), o .sources-first (n .each i h .place) e (n .each i h .within) he (q ∙ node-of i h) z)
+        go c (no z) = inl (let y : at code i % 32 - at counts e < n .each i h .clock = omega (arith, clock-of i h) in y)
+
+    module _ (from-rows : net .edges ≤ length (net .from)) (ins begin : List ℕ) (g : Entering net ins begin) where
+      places : (v : ℕ) → v < net .nodes → (at begin v ≤ at begin (v + 1)) × (at begin (v + 1) ≤ net .edges) × (at begin (v + 1) - at begin v ≡ length (group (net .to) v (net .edges)))
+      places = width (net .to) (net .edges) (net .nodes) (g .old) ins begin (fit-wired net (m .labelled .fit) .dst-in) (g .room) (g .sorts)
+
+      place-edge : (i j : ℕ) → i < cells → at begin (at code i / 32) ≤ j → j < at begin (at code i / 32 + 1) → (at ins j < net .edges) × (at (net .to) (at ins j) ≡ at code i / 32)
+      place-edge i j h = entered (net .to) (net .edges) (net .nodes) (g .old) ins begin (fit-wired net (m .labelled .fit) .dst-in) (g .room) (g .sorts) (at code i / 32) j (node-low i h)
+
+      pub ready : (i : ℕ) → i < cells → Ready (net .from) ins begin counts base id code i
+      ready i h = record {
+        row = omega (arith, node-low i h, low-nodes net lab (m .labelled), g .begin-rows);
+        rises = places (at code i / 32) (node-low i h) .0;
+        in-rows = omega (arith, places (at code i / 32) (node-low i h) .1, g .ins-rows);
+        shows = λ j u l. let p = place-edge i j h l u in shown (at ins j) (p .0) (p .1);
+      }
+        where
+          shown : (e : ℕ) → e < net .edges → at (net .to) e ≡ at code i / 32 → Shows (net .from) counts base id (at code i % 32) e
+          shown e he q = record {
+            from-row = omega arith;
+            count-row = omega (arith, m .count-rows);
+            base-row = omega (arith, m .base-rows);
+            low = omega (arith, base-low e he, m .few);
+            node = omega (arith, okay .nodes-few, from-node net lab (m .labelled) e he);
+            cell = λ l. omega (arith, source-earlier i e h he q l, okay .few);
+          }
+
+      pub few-places : sum (widthAt begin code) cells ≤ 24576
+      few-places =
+          few-operands (lagAt lab) order begin id code (net .nodes) (net .edges) cells (arranged order rows o) low-lag (low-edges net lab (m .labelled)) n
+          (λ v h. places v h .0) (omega (arith, g .sorts .begins (net .nodes) (omega arith), sorted-room (net .to) (net .edges) (net .nodes)))
+
+      module _ (kind first operand want : List ℕ) (ks : (i : ℕ) → i < cells → at kind i ≡ at (net .kind) (at code i / 32))
+          (os : Operands (net .from) ins begin counts base id code cells first operand) (ws : Wants net (lagAt lab) id want (net .edges))
+          (kind-rows : length kind ≡ 12288) (first-rows : length first ≡ 12289) (operand-rows : length operand ≡ 24576) (want-rows : length want ≡ 12288) where
+        -- Where the operands of cell i begin and end.
+        begins : (i : ℕ) → i < cells → (at first i ≡ sum (widthAt begin code) i) × (at first (suc i) ≡ sum (widthAt begin code) i + widthAt begin code i)
+        begins i h = (os .begins i (omega arith), ap (at first) (sym (add-one i)) ∙ os .begins (i + 1) (omega arith) ∙ sum-more (widthAt begin code) i)
+
+        earlier : (i j : ℕ) → i < cells → at first i ≤ j → j < at first (suc i) → (at operand j < k) ⊎ ((32 ≤ at operand j) × (at operand j < 32 + i))
+        unfolding sourceAt
+        earlier i j h l u =
+            let b = begins i h in
+            let q = j - at first i in
+            let lo = at begin (at code i / 32) in
+            let s : at operand j ≡ sourceAt (net .from) counts base id (at code i % 32) (at ins (lo + q)) =
+            ap (at operand) (let z : j ≡ sum (widthAt begin code) i + q = omega (arith, b .0) in z) ∙ os .shown i h q (omega (arith, b .0, b .1)) in
+            let p = place-edge i (lo + q) h (omega arith) (omega (arith, b .0, b .1)) in
+            go (at ins (lo + q)) (p .0) (p .1) s (decLt (at code i % 32) (at counts (at ins (lo + q))))
+          where
+            go : (e : ℕ) → e < net .edges → at (net .to) e ≡ at code i / 32 → at operand j ≡ sourceAt (net .from) counts base id (at code i % 32) e → Dec (at code i % 32 < at counts e)
+                → (at operand j < k) ⊎ ((32 ≤ at operand j) × (at operand j < 32 + i))
+            go e he q s (yes z) =
+                let w : at operand j ≡ at base e + at code i % 32 = s ∙ rw (lt-ltb (at code i % 32) (at counts e) z) in
+                inl (let y : at operand j < k = omega (arith, w, number-low (at code i % 32) e he (subst (λ v. at code i % 32 < lagAt lab v) (sym q) (clock-low i h)) z) in y)
+            go e he q s (no z) =
+                let w : at operand j ≡ 32 + at id (at (net .from) e * 32 + (at code i % 32 - at counts e)) = s ∙ rw (le-ltb (at code i % 32) (at counts e) (omega arith)) in
+                let y = source-earlier i e h he q (omega arith) in
+                inr ((let x : 32 ≤ at operand j = omega (arith, w) in x), (let x : at operand j < 32 + i = omega (arith, w, y) in x))
+
+        pub right : Program cells k kind first operand want
+        right = record {
+          few-bits = m .few;
+          few-cells = okay .few;
+          kind-rows = omega (arith, okay .few);
+          first-rows = omega (arith, okay .few);
+          want-rows = omega (arith, okay .few);
+          gates = λ i h. subst (λ x. x < 10) (sym (ks i h)) (kind-low net (m .labelled .fit) (at code i / 32) (node-low i h));
+          rising = λ i h. omega (arith, begins i h);
+          few-ins = λ i h. omega (arith, begins i h, places (at code i / 32) (node-low i h) .2, fan-low net (m .steppable .fans) (at code i / 32) (node-low i h));
+          in-rows = λ i h. omega (arith, begins i h, few-places, sum-more (widthAt begin code) i, sum-grows (widthAt begin code) (i + 1) cells (omega arith));
+          earlier = earlier;
+        }
+
+        made : Compiled net (lagsOf lab) cells kind first operand want (λ v t. at id (v * 32 + t))
+        made =
+            compiled net lab counts base order id code (g .old) ins begin kind first operand want cells (m .labelled) (m .counted) (m .based) (arranged order rows o) low-lag n (g .room) (g .sorts) ks os
+            (omega (arith, few-places)) ws
+
+        pub chooses : (found : Bool) (c : ℕ) → Solves cells k kind first operand want found c → Chooses net (lagsOf lab) found c
+        chooses true c = solved-best net (m .sound) (lagsOf lab) (m .labelled .legal) made size right c
+        chooses false c = solved-none net (m .sound) (lagsOf lab) (m .labelled .legal) made size right c
+
+    pub wirable : net .edges ≤ length (net .from) → Wirable net counts base id code cells
+    wirable from-rows = record {
+      nodes-few = low-nodes net lab (m .labelled);
+      edges-few = low-edges net lab (m .labelled);
+      cells-few = okay .few;
+      ready = ready from-rows;
+      room = few-places from-rows;
+    }

@@ -1,0 +1,241 @@
+// The program of a moved netlist: a cell for each node of positive lag and each clock below its lag.
+// Private to the crate: `choose` puts them together.
+use graph::by_rank;
+use moves::bytes_of;
+use moves::up_of;
+use netlist::Netlist;
+ghost use mathlib.Core.Path.{_≡_};
+ghost use mathlib.Core.Bool.{cond};
+ghost use Prim.Native.Nat.{ℕ, _+_, _*_, _-_, _/_, _≤_, _<_};
+ghost use lib.Dec.{ltb};
+ghost use lib.ListN.{length};
+ghost use Rattle.theory.specs.Move.{sum};
+ghost use Rattle.graph.specs.Columns.{at};
+ghost use Rattle.choose.specs.Numbers.{lagAt, Arranged, Numbered};
+ghost use Rattle.choose.specs.Sources.{sourceAt, Shows, Appended, widthAt, Ready, Operands};
+ghost use Rattle.choose.specs.Wants.{mergeOf, Celled, EdgeWants, Wants};
+ghost use Rattle.moves.specs.Labels.{Labelled, Counts};
+ghost use Rattle.theory.specs.Walk.{Loop};
+ghost use Rattle.graph.specs.Sort.{Ordered};
+ghost use Rattle.netlist.specs.Net.{graphOf, regsOf};
+
+// The cells of clock t are numbered from `start` on, in the order of the nodes. The number after them.
+fn number_clock(
+    order: &[u16],
+    lab: &[u32],
+    nodes: usize,
+    t: usize,
+    start: usize,
+    id: &mut [u16],
+    code: &mut [u16],
+) -> usize
+    requires { ⌜ Arranged (now order) nodes × (nodes ≤ length (now lab)) × (t < 24) ⌝ }
+    requires { ⌜ ((v : ℕ) → v < nodes → lagAt (now lab) v ≤ 24) ⌝ }
+    requires { ⌜ Numbered (lagAt (now lab)) (now order) nodes t 0 start (now id) (now code) ⌝ }
+    ensures { λ r. ⌜ Numbered (lagAt (now (lab .entry))) (now (order .entry)) nodes t nodes r (now (id .exit)) (now (code .exit)) ⌝ }
+{
+    let clock = t as u32;
+    let mut n = start;
+    let mut p = 0;
+    while p < nodes {
+        let v = order[p] as usize;
+        if clock < up_of(lab[v]) {
+            let spot = v * 32 + t;
+            id[spot] = n as u16;
+            code[n] = spot as u16;
+            n += 1;
+        }
+        p += 1;
+    }
+    n
+}
+
+// All cells are numbered: how many there are.
+pub fn number_cells(
+    order: &[u16],
+    lab: &[u32],
+    nodes: usize,
+    id: &mut [u16],
+    code: &mut [u16],
+) -> usize
+    requires { ⌜ Arranged (now order) nodes × (nodes ≤ length (now lab)) ⌝ }
+    requires { ⌜ ((v : ℕ) → v < nodes → lagAt (now lab) v ≤ 24) ⌝ }
+    requires { ⌜ (length (now id) ≡ 16384) × (length (now code) ≡ 12288) ⌝ }
+    ensures { λ r. ⌜ Numbered (lagAt (now (lab .entry))) (now (order .entry)) nodes 24 0 r (now (id .exit)) (now (code .exit)) ⌝ }
+{
+    let mut n = 0;
+    let mut t = 0;
+    while t < 24 {
+        n = number_clock(order, lab, nodes, t, n, id, code);
+        t += 1;
+    }
+    n
+}
+
+// The kinds of the cells: those of their nodes.
+pub fn kinds_of(kind: &[u8], code: &[u16], cells: usize) -> [u8; 12288]
+    requires { ⌜ (cells ≤ 12288) × (cells ≤ length (now code)) ⌝ }
+    requires { ⌜ ((i : ℕ) → i < cells → at (now code) i / 32 < length (now kind)) ⌝ }
+    ensures { λ r. ⌜ ((i : ℕ) → i < cells → at r i ≡ at (now (kind .entry)) (at (now (code .entry)) i / 32)) ⌝ }
+{
+    let mut kinds = [0u8; 12288];
+    let mut i = 0;
+    while i < cells {
+        let v = (code[i] / 32) as usize;
+        kinds[i] = kind[v];
+        i += 1;
+    }
+    kinds
+}
+
+// What an edge shows at clock t: while t is below the new count a chosen value, then a cell of its source.
+fn source_of(base: u32, count: u32, from: u16, t: u32, id: &[u16]) -> u16
+    requires { ⌜ (base ≤ 32768) × (t < 32) × (from < 512) × (length (now id) ≡ 16384) ⌝ }
+    requires { ⌜ (count ≤ t → at (now id) (from * 32 + (t - count)) < 12288) ⌝ }
+    ensures { λ r. ⌜ r ≡ cond (ltb t count) (base + t) (32 + at (now (id .entry)) (from * 32 + (t - count))) ⌝ }
+{
+    if t < count {
+        (base + t) as u16
+    } else {
+        let spot = (from as usize) * 32 + ((t - count) as usize);
+        32 + id[spot]
+    }
+}
+
+// The operands of the edges at the places `lo` to `hi` of `ins`, put from `start` on. The place after them.
+fn append_sources(
+    from: &[u16],
+    ins: &[u16],
+    counts: &[u32],
+    base: &[u32],
+    id: &[u16],
+    t: u32,
+    lo: usize,
+    hi: usize,
+    start: usize,
+    operand: &mut [u16],
+) -> usize
+    requires { ⌜ (lo ≤ hi) × (hi ≤ length (now ins)) × (start + hi ≤ lo + length (now operand)) × (t < 32) × (length (now id) ≡ 16384) ⌝ }
+    requires { ⌜ ((k : ℕ) → k < hi → lo ≤ k → Shows (now from) (now counts) (now base) (now id) t (at (now ins) k)) ⌝ }
+    ensures { λ r. ⌜ r + lo ≡ start + hi ⌝ }
+    ensures { λ r. ⌜ Appended (sourceAt (now (from .entry)) (now (counts .entry)) (now (base .entry)) (now (id .entry)) t) (now (ins .entry)) (now (operand .entry)) (now (operand .exit)) lo hi start ⌝ }
+{
+    let mut n = start;
+    let mut k = lo;
+    while k < hi {
+        let e = ins[k] as usize;
+        operand[n] = source_of(base[e], counts[e], from[e], t, id);
+        n += 1;
+        k += 1;
+    }
+    n
+}
+
+// The operands of all cells, one cell after the other; `first[i]` is where those of cell i begin, for i up to `cells`.
+pub fn operands_of(
+    from: &[u16],
+    ins: &[u16],
+    begin: &[u16],
+    counts: &[u32],
+    base: &[u32],
+    id: &[u16],
+    code: &[u16],
+    cells: usize,
+    first: &mut [u16],
+    operand: &mut [u16],
+)
+    requires { ⌜ (cells < length (now first)) × (cells ≤ length (now code)) × (length (now id) ≡ 16384) ⌝ }
+    requires { ⌜ (sum (widthAt (now begin) (now code)) cells ≤ length (now operand)) × (sum (widthAt (now begin) (now code)) cells < 65536) ⌝ }
+    requires { ⌜ ((i : ℕ) → i < cells → Ready (now from) (now ins) (now begin) (now counts) (now base) (now id) (now code) i) ⌝ }
+    ensures { λ _. ⌜ Operands (now (from .entry)) (now (ins .entry)) (now (begin .entry)) (now (counts .entry)) (now (base .entry)) (now (id .entry)) (now (code .entry)) cells (now (first .exit)) (now (operand .exit)) ⌝ }
+{
+    first[0] = 0;
+    let mut n = 0;
+    let mut i = 0;
+    while i < cells {
+        let v = (code[i] / 32) as usize;
+        let t = (code[i] % 32) as u32;
+        let lo = begin[v] as usize;
+        let hi = begin[v + 1] as usize;
+        n = append_sources(from, ins, counts, base, id, t, lo, hi, n, operand);
+        i += 1;
+        first[i] = n as u16;
+    }
+}
+
+// What is wanted of a cell, with one more wanted value: 2 is nothing, 3 is what nothing satisfies.
+fn merge(wanted: u8, value: u8) -> u8
+    ensures { λ r. ⌜ r ≡ mergeOf wanted value ⌝ }
+{
+    if wanted == 2 {
+        return value;
+    }
+    if wanted == value { value } else { 3 }
+}
+
+// "for each edge leaving a node v with positive lag and each old value s of that edge with s at least w − r(v)": its cell wants that value.
+fn want_edge(
+    from: u16,
+    count: u32,
+    start: u32,
+    label: &[u32],
+    nodes: usize,
+    cells: usize,
+    id: &[u16],
+    code: &[u16],
+    want: &mut [u8],
+)
+    requires { ⌜ Celled (lagAt (now label)) nodes cells (now id) (now code) ⌝ }
+    requires { ⌜ (from < nodes) × (nodes ≤ length (now label)) × (length (now id) ≡ 16384) × (length (now want) ≡ 12288) × (count ≤ 32) ⌝ }
+    ensures { λ _. ⌜ EdgeWants (lagAt (now (label .entry))) nodes (now (id .entry)) from count start count (now (want .entry)) (now (want .exit)) ⌝ }
+{
+    let lag = up_of(label[from as usize]);
+    let mut s = 0;
+    while s < count {
+        if count <= s + lag {
+            let spot = (from as usize) * 32 + ((s + lag - count) as usize);
+            let i = id[spot] as usize;
+            want[i] = merge(want[i], ((start >> s) % 2) as u8);
+        }
+        s += 1;
+    }
+}
+
+// The nodes in evaluation order of the moved netlist.
+pub fn order_of(net: Netlist, lab: &[u32], counts: &[u32]) -> [u16; 512]
+    requires { ⌜ Labelled net (now lab) × Counts net (now lab) (now counts) × (net .edges ≤ length (now counts)) ⌝ }
+    requires { ⌜ ((e : ℕ) → e < net .edges → at (now counts) e ≤ 32) ⌝ }
+    requires { ⌜ ¬ Loop (graphOf net) (regsOf net .count) ⌝ }
+    ensures { λ r. ⌜ Ordered (net .nodes) (net .edges) (net .from) (net .to) (now (counts .entry)) r ⌝ }
+{
+    let nodes = net.nodes as usize;
+    let edges = net.edges as usize;
+    let bytes = bytes_of(counts, edges);
+    by_rank(&net.from, &net.to, &bytes, nodes, edges)
+}
+
+// What all edges want.
+pub fn wants_of(net: Netlist, lab: &[u32], cells: usize, id: &[u16], code: &[u16]) -> [u8; 12288]
+    requires { ⌜ Labelled net (now lab) × Celled (lagAt (now lab)) (net .nodes) cells (now id) (now code) × (length (now id) ≡ 16384) ⌝ }
+    ensures { λ r. ⌜ Wants net (lagAt (now (lab .entry))) (now (id .entry)) r (net .edges) ⌝ }
+{
+    let nodes = net.nodes as usize;
+    let edges = net.edges as usize;
+    let mut want = [2u8; 12288];
+    let mut e = 0;
+    while e < edges {
+        want_edge(
+            net.from[e],
+            net.count[e] as u32,
+            net.start[e],
+            lab,
+            nodes,
+            cells,
+            id,
+            code,
+            &mut want,
+        );
+        e += 1;
+    }
+    want
+}

@@ -1,0 +1,5 @@
+// The choice of start values. Internal: asks of the caller the labels of the least retiming (`Moving`).
+mod cells;
+mod choosing;
+
+pub use choosing::choose;

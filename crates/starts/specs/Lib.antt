@@ -1,0 +1,2 @@
+-- The new start values, found clock by clock of the original on zeros.
+pub mod Starts

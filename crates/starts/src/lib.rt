@@ -1,0 +1,4 @@
+// The start values of the moved netlist. Internal: asks of the caller the labels of the least retiming (`Moving`).
+mod words;
+
+pub use words::moved;
