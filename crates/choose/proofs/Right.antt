@@ -30,7 +30,7 @@ use Rattle.simulate.proofs.Plans.{kind-low, fan-low}
 use Rattle.solve.specs.Program.{Program, Solves}
 use Rattle.choose.specs.Cells.{Compiled}
 use Rattle.moves.specs.Labels.{lagsOf, chosenAt}
-use Rattle.choose.specs.Numbers.{lagAt, Arranged, Before, CellAt, Numbered}
+use Rattle.choose.specs.Numbers.{lagAt, Arranged, Before, Numbered}
 use Rattle.choose.specs.Sources.{sourceAt, Shows, widthAt, Ready, Operands}
 use Rattle.choose.specs.Wants.{Celled, Wants}
 use Rattle.moves.specs.Moving.{Moving}
@@ -88,14 +88,14 @@ module _ (net : Netlist) (lab counts base : List ℕ) (k : ℕ) (m : Moving net 
     source-earlier : (i e : ℕ) → i < cells → e < net .edges → at (net .to) e ≡ at code i / 32 → at counts e ≤ at code i % 32
         → at id (at (net .from) e * 32 + (at code i % 32 - at counts e)) < i
     source-earlier i e h he q l =
-        let c = n .each i h in
         let t = at code i % 32 in
-        c .earlier (at (net .from) e) (t - at counts e) (from-node net lab (m .labelled) e he)
-        (source-lag t e he (subst (λ v. t < lagAt lab v) (sym q) (clock-low i h)) l) (go c (ℕ-discrete (at counts e) 0))
+        n .each i h .earlier (at (net .from) e) (t - at counts e) (from-node net lab (m .labelled) e he)
+        (source-lag t e he (subst (λ v. t < lagAt lab v) (sym q) (clock-low i h)) l) (go (ℕ-discrete (at counts e) 0))
       where
-        go : (c : CellAt (lagAt lab) order (net .nodes) id code 24 0 i) → Dec (at counts e ≡ 0) → Before order (n .each i h .clock) (n .each i h .place) (at (net .from) e) (at code i % 32 - at counts e)
-        go c (yes z) = inr ((let y : at code i % 32 - at counts e ≡ n .each i h .clock = omega (arith, clock-of i h) in y), o .sources-first (n .each i h .place) e (n .each i h .within) he (q ∙ node-of i h) z)
-        go c (no z) = inl (let y : at code i % 32 - at counts e < n .each i h .clock = omega (arith, clock-of i h) in y)
+        go : Dec (at counts e ≡ 0) → Before order (n .each i h .clock) (n .each i h .place) (at (net .from) e) (at code i % 32 - at counts e)
+        go (yes z) =
+            inr ((let y : at code i % 32 - at counts e ≡ n .each i h .clock = omega (arith, clock-of i h) in y), o .sources-first (n .each i h .place) e (n .each i h .within) he (q ∙ node-of i h) z)
+        go (no z) = inl (let y : at code i % 32 - at counts e < n .each i h .clock = omega (arith, clock-of i h) in y)
 
     module _ (from-rows : net .edges ≤ length (net .from)) (ins begin : List ℕ) (g : Entering net ins begin) where
       places : (v : ℕ) → v < net .nodes → (at begin v ≤ at begin (v + 1)) × (at begin (v + 1) ≤ net .edges) × (at begin (v + 1) - at begin v ≡ length (group (net .to) v (net .edges)))

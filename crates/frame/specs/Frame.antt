@@ -6,7 +6,7 @@
 --   hexOf bs, lineOf bs the digits of the bytes bs; the line of them
 --   bytesOf n x         the number x as n bytes
 -- Assumes nothing.
-use mathlib.Core.Bool.{Bool, true, false, cond}
+use mathlib.Core.Bool.{Bool, false, cond}
 use mathlib.Core.List.{List, [], _∷_, _++_}
 use Prim.Native.Nat.{ℕ, zero, suc, _+_, _-_, _*_, _^_, _/_, _%_}
 use lib.Dec.{eqb, ltb, leb}

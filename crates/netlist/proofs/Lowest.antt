@@ -18,10 +18,9 @@ use Rattle.theory.specs.Graph.{Graph, Wired}
 use Rattle.graph.specs.Columns.{fan-in, reverse, From, Told, Laid}
 use Rattle.graph.proofs.Laws.{from-input, input-from, to-output, output-from}
 use Rattle.netlist.specs.declared.Netlist.{Netlist}
-use Rattle.netlist.specs.Answer.{Says, node}
-use Rattle.netlist.specs.Net.{graphOf}
+use Rattle.netlist.specs.Answer.{node}
 use Rattle.rules.specs.Rules.{ruleOf}
-use Rattle.netlist.specs.Read.{FanIn, Joined, All, Lowest}
+use Rattle.netlist.specs.Read.{FanIn, Joined, All}
 use Rattle.netlist.specs.Stages.{Sought, found}
 use Rattle.netlist.specs.Theorems.{Fit}
 use Rattle.netlist.proofs.Fits.{clash, within-true, head-fits}

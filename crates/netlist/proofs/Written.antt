@@ -6,16 +6,16 @@
 --   front-written       what is written stands at the front
 -- Assumes nothing.
 use Prim.Native.Nat.{ℕ, zero, suc, _+_, _*_, _≤_}
-use mathlib.Core.Path.{_≡_, refl, ap, sym, _∙_}
+use mathlib.Core.Path.{_≡_, ap, sym, _∙_}
 use mathlib.Core.List.{List, _++_}
 use native.Mathlib.Omega.{arith}
 use native.Mathlib.Nat.{mul-suc}
 use native.Mathlib.Numerals.{add-one}
 use lib.ListN.{length, take, drop, length-append}
 use lib.Seq.{sets, sets-eq, length-sets, take-at}
-use Rattle.frame.specs.Frame.{lineOf, bytesOf}
+use Rattle.frame.specs.Frame.{bytesOf}
 use Rattle.frame.specs.Decoded.{placed}
-use Rattle.frame.proofs.Laws.{length-line, length-bytes, placed-room, sets-sets}
+use Rattle.frame.proofs.Laws.{length-line, placed-room, sets-sets}
 use Rattle.netlist.specs.declared.Netlist.{Netlist}
 use Rattle.netlist.specs.Write.{headLine, nodeLine, edgeLine, joined, textOf}
 

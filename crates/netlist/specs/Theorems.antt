@@ -11,14 +11,14 @@ use mathlib.Core.Path.{_≡_}
 use mathlib.Core.Bool.{true, false}
 use mathlib.Core.Logic.{_↔_}
 use mathlib.Core.List.{List, [], _++_}
-use Prim.Native.Nat.{ℕ, suc, _+_, _<_, _≤_}
+use Prim.Native.Nat.{ℕ, _+_, _<_, _≤_}
 use lib.ListN.{length, getD, take, drop}
 use Rattle.frame.specs.Frame.{bad, frameAt, line, numberAt}
 use Rattle.theory.specs.Walk.{Loop}
 use Rattle.theory.specs.Gate.{gate}
 use Rattle.theory.specs.Retimer.{Sound}
 use Rattle.netlist.specs.declared.Netlist.{Netlist}
-use Rattle.netlist.specs.Answer.{Says, value, refused, whole, node, line as at-line}
+use Rattle.netlist.specs.Answer.{Says, value, whole, node, line as at-line}
 use Rattle.netlist.specs.Net.{graphOf, regsOf}
 use Rattle.rules.specs.Rules.{headFits, nodeFits, edgeFits}
 use Rattle.netlist.specs.Read.{FanIn, fault, lines, linesOf, Joined, All, Lowest, Reads}

@@ -1,7 +1,6 @@
 -- `rules::fan_fits` meets its contract: the two ends of the kind's numbers.
 -- Assumes nothing.
-use borrow.Author.Tests.{lt-ltb, le-ltb, le-leb, lt-leb}
-use Rattle.rules.specs.Rules.{ruleOf}
+use borrow.Author.Tests.{le-leb, lt-leb}
 use borrow.Author.Needs.{needs}
 use Rattle.rules.proofs.fan_fits.Statement.{statement}
 use Rattle.rules.proofs.fan_fits.Tie as tie

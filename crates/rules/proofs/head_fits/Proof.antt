@@ -1,10 +1,9 @@
 -- `rules::head_fits` meets its contract: a test for each end of a range.
 -- Assumes nothing.
 use native.Mathlib.Omega.{arith}
-use borrow.Author.Tests.{lt-ltb, le-ltb, le-leb, lt-leb}
+use borrow.Author.Tests.{le-leb, lt-leb}
 use Rattle.rules.specs.Rules.{headFits}
 use Rattle.rules.proofs.Tables.{last-test}
-use borrow.Author.Needs.{needs}
 use Rattle.rules.proofs.head_fits.Statement.{statement}
 use Rattle.rules.proofs.head_fits.Tie as tie
 

@@ -1,16 +1,15 @@
 -- `netlist::judging::fan_fault` meets its contract. The loop's invariant: all nodes below v keep rule 5.
 -- Assumes nothing.
-use Prim.Native.Nat.{ℕ, _-_, _≤_}
+use Prim.Native.Nat.{_-_, _≤_}
 use mathlib.Core.Path.{refl}
 use native.Mathlib.Omega.{arith}
-use borrow.Author.Count.{below-none, below-more}
+use borrow.Author.Count.{below-more}
 use borrow.Author.Needs.{needs}
 use borrow.Author.Tests.{not-true, not-false}
 use Rattle.graph.specs.Columns.{Told}
 use Rattle.netlist.specs.Net.{graphOf}
 use Rattle.netlist.specs.Read.{FanIn, All}
 use Rattle.netlist.specs.Stages.{none}
-use Rattle.netlist.proofs.Fits.{node-fits}
 use Rattle.netlist.proofs.Lowest.{few, laid, fan-test, told-yes, told-no, sought-lowest}
 use Rattle.netlist.proofs.judging.fan_fault.Statement.{statement}
 use Rattle.netlist.proofs.judging.fan_fault.Tie as tie

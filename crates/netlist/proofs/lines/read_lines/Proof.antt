@@ -1,13 +1,10 @@
 -- `netlist::lines::read_lines` meets its contract: each stage goes on where the one before it ended, or its fault stands.
 -- Assumes nothing.
-use Prim.Native.Nat.{ℕ, _+_}
-use mathlib.Core.Path.{_≡_, refl, sym, _∙_}
-use mathlib.Core.List.{List}
-use native.Mathlib.Omega.{arith}
+use Prim.Native.Nat.{_+_}
+use mathlib.Core.Path.{_≡_, _∙_}
 use lib.ListN.{drop}
-use Rattle.netlist.specs.declared.Netlist.{Netlist}
 use Rattle.netlist.specs.Read.{linesOf, nodesFrom, edgesFrom, ends, lines}
-use Rattle.netlist.proofs.Stages.{goes-fault, goes-on, goes-stop, goes-done, goes-end, ends-surplus, ends-none}
+use Rattle.netlist.proofs.Stages.{goes-on, goes-stop, goes-done, goes-end, ends-surplus, ends-none}
 use borrow.Author.Needs.{needs}
 use Rattle.netlist.proofs.lines.read_lines.Statement.{statement}
 use Rattle.netlist.proofs.lines.read_lines.Tie as tie

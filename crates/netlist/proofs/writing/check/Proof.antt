@@ -1,7 +1,6 @@
 -- `netlist::writing::check` meets its contract: a head out of its ranges is the first line's fault.
 -- Assumes nothing.
 use mathlib.Core.Path.{sym, _∙_}
-use native.Mathlib.Omega.{arith}
 use borrow.Author.Needs.{needs}
 use borrow.Author.Tests.{not-true, not-false}
 use Rattle.netlist.specs.Read.{faulty}

@@ -1,7 +1,7 @@
 -- `netlist::writing::put_edges` meets its contract. The loop's invariant: the lines of the rows below e stand at `at0`, and the cursor is behind them.
 -- Assumes nothing.
-use Prim.Native.Nat.{ℕ, _+_, _-_, _*_, _≤_}
-use mathlib.Core.Path.{_≡_, ap, ap₂, sym, _∙_}
+use Prim.Native.Nat.{_+_, _-_, _*_, _≤_}
+use mathlib.Core.Path.{_≡_, ap, ap₂, _∙_}
 use native.Mathlib.Omega.{arith}
 use lib.ListN.{length}
 use lib.Seq.{sets, length-sets}

@@ -1,16 +1,13 @@
 -- `netlist::writing::put_text` meets its contract: the head, the node lines and the edge lines, each behind the one before.
 -- Assumes nothing.
-use Prim.Native.Nat.{_+_, _*_, _≤_}
-use mathlib.Core.Path.{_≡_, ap, ap₂, sym, _∙_}
-use mathlib.Core.List.{List}
+use mathlib.Core.Path.{ap, ap₂, _∙_}
 use native.Mathlib.Omega.{arith}
-use lib.ListN.{length, length-append}
-use lib.Seq.{sets, length-sets}
+use lib.Seq.{sets}
 use borrow.Author.Needs.{needs}
 use Rattle.frame.specs.Frame.{lineOf}
 use Rattle.frame.specs.Decoded.{placed}
-use Rattle.netlist.specs.Write.{headLine, nodeLine, edgeLine, joined, textOf}
-use Rattle.netlist.proofs.Written.{length-joined, head-length, node-length, edge-length, text-length, text-parts}
+use Rattle.netlist.specs.Write.{nodeLine, edgeLine, joined}
+use Rattle.netlist.proofs.Written.{length-joined, node-length, edge-length, text-length, text-parts}
 use Rattle.netlist.proofs.writing.put_text.Statement.{statement}
 use Rattle.netlist.proofs.writing.put_text.Tie as tie
 
