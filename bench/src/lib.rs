@@ -5,6 +5,7 @@
 
 pub mod generate;
 pub mod reference;
+pub mod retiming;
 
 use reference::{Answer, Edge, Netlist, Node, Place, Refusal};
 
@@ -17,6 +18,14 @@ unsafe extern "C" {
         vectors_len: usize,
         out: *mut u8,
         out_len: usize,
+    ) -> u64;
+    fn exports_retime(
+        text: *const u8,
+        text_len: usize,
+        out: *mut u8,
+        out_len: usize,
+        lags: *mut i32,
+        lags_len: usize,
     ) -> u64;
     fn exports_read(text: *const u8, text_len: usize, record: *mut u32, record_len: usize) -> u64;
     fn exports_write(record: *const u32, record_len: usize, out: *mut u8, out_len: usize) -> u64;
@@ -66,6 +75,13 @@ pub fn reread(text: &[u8], out: &mut [u8]) -> Answer<usize> {
 pub fn run(text: &[u8], vectors: &[u8], out: &mut [u8]) -> Answer<usize> {
     answer(unsafe {
         exports_run(text.as_ptr(), text.len(), vectors.as_ptr(), vectors.len(), out.as_mut_ptr(), out.len())
+    })
+}
+
+/// A text retimed: the new text, each node's lag, and how many start values were chosen.
+pub fn retime(text: &[u8], out: &mut [u8], lags: &mut [i32]) -> Answer<usize> {
+    answer(unsafe {
+        exports_retime(text.as_ptr(), text.len(), out.as_mut_ptr(), out.len(), lags.as_mut_ptr(), lags.len())
     })
 }
 

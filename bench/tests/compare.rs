@@ -1,9 +1,12 @@
 //! The proved calls against the Rust ones, on many inputs, sound and damaged: equal answers, equal buffers in whole (also the
 //! bytes and words that must stay), equal machine words.
 
-use bench::generate::{any_sound, damage_netlist, damage_text, largest, text_of, Random};
+use bench::generate::{
+    any_cone, any_retimable, any_sound, damage_netlist, damage_text, largest, longest_chain, mixed, parities, ring,
+    slowest_accepted, slowest_infeasible, text_of, thinned, trunk, Random,
+};
 use bench::reference::{self, Answer, Netlist, INPUT, OUTPUT};
-use bench::{Record, EDGES, RECORD};
+use bench::{retiming, Record, EDGES, NODES, RECORD};
 
 fn pins(net: &Netlist, kind: u8) -> usize {
     net.nodes.iter().filter(|node| node.kind == kind).count()
@@ -282,5 +285,186 @@ fn running_is_stepping() {
             assert_eq!(bench::step(&record, &mut words, vector, &mut once), Ok(outputs));
             assert!(once == row);
         }
+    }
+}
+
+// --- Retiming -------------------------------------------------------------------------------------
+
+/// Both calls on one text, into equal buffers and lag tables: equal answers, buffers and tables in whole; a refusal touches
+/// nothing, and else only what is written.
+fn retimed_alike(rng: &mut Random, text: &[u8], room: usize, lag_room: usize) -> Answer<usize> {
+    let mut out = filled(rng, room);
+    let mut lags: Vec<i32> = (0..lag_room).map(|_| rng.draw() as i32).collect();
+    let (old_out, old_lags) = (out.clone(), lags.clone());
+    let (mut rust_out, mut rust_lags) = (out.clone(), lags.clone());
+    let given = bench::retime(text, &mut out, &mut lags);
+    let rust = retiming::retime(text, &mut rust_out, &mut rust_lags);
+    let shown = String::from_utf8_lossy(text);
+    assert_eq!(given, rust, "{shown}");
+    assert!(out == rust_out, "{shown}");
+    assert!(lags == rust_lags, "{shown}");
+    match given {
+        Ok(_) => assert!(out[text.len()..] == old_out[text.len()..]),
+        Err(_) => assert!(out == old_out && lags == old_lags),
+    }
+    given
+}
+
+/// .. with room for all of it and for more.
+fn retimed_with_room(rng: &mut Random, text: &[u8]) -> Answer<usize> {
+    let (more, more_lags) = (rng.pick(&[0, 0, 1, 300]), rng.pick(&[0, 0, 1, 20]));
+    retimed_alike(rng, text, text.len() + more, NODES + more_lags)
+}
+
+#[test]
+fn retiming_sound_texts() {
+    let mut rng = Random::new(7);
+    let mut seen = Seen::default();
+    let mut chosen = [0; 25];
+    for _ in 0..20_000 {
+        let net = any_retimable(&mut rng, 24);
+        let text = text_of(&net);
+        let given = retimed_with_room(&mut rng, &text);
+        seen.count(&given);
+        if let Ok(n) = given {
+            chosen[n] += 1;
+        }
+    }
+    println!("values chosen: {chosen:?}");
+    assert!(chosen.iter().all(|&times| times > 0));
+    seen.show("retiming sound texts", &[0, 8, 9, 10, 11]);
+}
+
+/// "Order: lines in turn, ...; then 5, 6, 7; retiming goes on with 12, 8, 9, 10, 11": buffers and lag tables of any length.
+#[test]
+fn retiming_damaged_texts_and_short_room() {
+    let mut rng = Random::new(8);
+    let mut seen = Seen::default();
+    for _ in 0..10_000 {
+        let mut net = any_retimable(&mut rng, 12);
+        let mut text = text_of(&net);
+        match rng.below(4) {
+            0 => damage_text(&mut rng, &mut text),
+            1 => {
+                damage_netlist(&mut rng, &mut net);
+                text = lines_of(&net);
+            }
+            _ => {}
+        }
+        let room = if rng.one_in(2) { text.len() } else { room(&mut rng, text.len()) };
+        let lag_room = if rng.one_in(2) { NODES } else { self::room(&mut rng, net.nodes.len()) };
+        seen.count(&retimed_alike(&mut rng, &text, room, lag_room));
+    }
+    seen.show("retiming damaged texts, short room", &[0, 1, 2, 3, 4, 5, 6, 7, 8, 9, 10, 11, 12]);
+}
+
+/// Each buffer and each lag table that is too short, up to one that is just enough.
+#[test]
+fn retiming_into_every_length() {
+    let mut rng = Random::new(9);
+    let (mut texts, mut calls) = (0, 0);
+    while texts < 40 {
+        let net = any_retimable(&mut rng, 24);
+        let (text, nodes) = (text_of(&net), net.nodes.len());
+        if text.len() > 600 {
+            continue;
+        }
+        for room in 0..=text.len() {
+            let given = retimed_alike(&mut rng, &text, room, nodes);
+            assert_eq!(given == Err(whole(12)), room < text.len());
+        }
+        for lag_room in 0..=nodes {
+            let given = retimed_alike(&mut rng, &text, text.len(), lag_room);
+            assert_eq!(given == Err(whole(12)), lag_room < nodes);
+        }
+        texts += 1;
+        calls += text.len() + nodes + 2;
+    }
+    println!("retiming into every length: {texts} texts, {calls} calls");
+}
+
+fn whole(number: u8) -> reference::Refusal {
+    reference::Refusal { number, place: reference::Place::Whole }
+}
+
+#[test]
+fn retiming_large_texts() {
+    let mut rng = Random::new(10);
+    let mut seen = Seen::default();
+    for turn in 0..400 {
+        let net = match turn % 8 {
+            0 => {
+                let length = rng.among(100, 255);
+                let (spacing, period) = (rng.pick(&[30, 31, 32]), rng.pick(&[1, 2, 7, length, 256]));
+                trunk(&mut rng, length, spacing, period as u16)
+            }
+            1 => {
+                let mut registers = vec![0; rng.among(200, 500)];
+                let step = rng.among(5, 60);
+                registers.iter_mut().step_by(step).for_each(|count| *count = 1);
+                let period = rng.among(step - 1, step + 4) as u16;
+                ring(&mut rng, &registers, period)
+            }
+            _ => {
+                let counts: &[u8] = rng.pick(&[&[1u8][..], &[1, 1, 1, 2, 3], &[1, 2, 8, 30]]);
+                let net = largest(&mut rng, 1);
+                let mut net = thinned(&mut rng, net, counts);
+                let parts = rng.pick(&[99, 95, 90, 80, 70, 60, 50]);
+                net.period = (longest_chain(&net) * parts / 100).max(1) as u16;
+                net
+            }
+        };
+        let net = if rng.one_in(2) { mixed(&mut rng, &net) } else { net };
+        seen.count(&retimed_with_room(&mut rng, &text_of(&net)));
+    }
+    for net in [slowest_accepted(), slowest_infeasible()] {
+        seen.count(&retimed_with_room(&mut rng, &text_of(&net)));
+    }
+    seen.show("retiming large texts", &[0, 8, 9, 10, 11]);
+}
+
+/// Up to 24 chosen values: cones with a start that a choice carries, and conflicts that hang on the first or the last values.
+#[test]
+fn retiming_with_long_searches() {
+    let mut rng = Random::new(11);
+    let mut seen = Seen::default();
+    for _ in 0..500 {
+        let net = any_cone(&mut rng, 24);
+        seen.count(&retimed_with_room(&mut rng, &text_of(&net)));
+    }
+    for (chosen, range) in [(24, 0..2), (24, 0..12), (24, 10..14), (24, 22..24), (24, 10..24), (20, 4..20), (18, 0..18)]
+    {
+        for values in [[0, 0], [0, 1], [1, 0], [1, 1]] {
+            let text = text_of(&parities(chosen, range.clone(), values));
+            let given = retimed_with_room(&mut rng, &text);
+            assert_eq!(given, if values[0] == values[1] { Ok(chosen) } else { Err(whole(11)) });
+            seen.count(&given);
+        }
+    }
+    seen.show("retiming with long searches", &[0, 11]);
+}
+
+/// "The two runs give the same answer, a refusal included, and leave equal buffers": the retimed text runs as the text does.
+#[test]
+fn retimed_texts_run_alike() {
+    let mut rng = Random::new(12);
+    let mut moved = 0;
+    while moved < 1000 {
+        let net = any_retimable(&mut rng, 24);
+        let text = text_of(&net);
+        let mut new = vec![0; text.len()];
+        if bench::retime(&text, &mut new, &mut [0; NODES]).is_err() || new == text {
+            continue;
+        }
+        moved += 1;
+        let mut vectors = rng.bits(60 * pins(&net, INPUT));
+        if rng.one_in(8) {
+            vectors = any_vector(&mut rng, vectors.len());
+        }
+        let room = room(&mut rng, 60 * pins(&net, OUTPUT));
+        let mut out = filled(&mut rng, room);
+        let mut new_out = out.clone();
+        assert_eq!(bench::run(&text, &vectors, &mut out), bench::run(&new, &vectors, &mut new_out));
+        assert!(out == new_out);
     }
 }

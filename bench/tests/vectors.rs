@@ -1,6 +1,8 @@
-//! The Rust implementation on the gate's own vectors: crates/rereads and crates/run, made by tests/make_vectors.py.
+//! The Rust implementation on the gate's own vectors: crates/rereads, crates/run and crates/listings, made by
+//! tests/make_vectors.py. Retiming also through the exported call.
 
 use bench::reference::{read, run, write, Answer};
+use bench::retiming;
 use std::path::Path;
 
 /// What a gate program is given and must print.
@@ -62,4 +64,43 @@ fn runs() {
         given = rest;
     }
     assert!(printed == wanted);
+}
+
+type Retime = fn(&[u8], &mut [u8], &mut [i32]) -> Answer<usize>;
+
+/// "It prints the new text, then per node a frame `04`: node (2), lag (2, two's complement)."
+fn listings(retime: Retime) {
+    let (given, wanted) = vectors("listings");
+    let (mut given, mut printed, mut texts) = (&given[..], Vec::new(), 0);
+    while !given.is_empty() {
+        let (numbers, rest) = head(given, "00", 1);
+        let (text, rest) = rest.split_at(numbers[0]);
+        let mut out = vec![0; text.len()];
+        let mut lags = vec![0; 512];
+        let answer = retime(text, &mut out, &mut lags).map(|_| {
+            let nodes = read(text).expect("a text that was retimed").nodes.len();
+            for (v, lag) in lags[..nodes].iter().enumerate() {
+                out.extend_from_slice(format!("04{v:04X}{:04X}\n", *lag as i16).as_bytes());
+            }
+            out.len()
+        });
+        let before = printed.len();
+        print(&mut printed, answer, &out);
+        let shown = String::from_utf8_lossy(text);
+        assert!(wanted.get(before..printed.len()) == Some(&printed[before..]), "text {texts}, {answer:?}:\n{shown}");
+        texts += 1;
+        given = rest;
+    }
+    assert!(printed == wanted);
+    println!("listings: {texts} texts");
+}
+
+#[test]
+fn listings_by_the_export() {
+    listings(bench::retime);
+}
+
+#[test]
+fn listings_by_rust() {
+    listings(retiming::retime);
 }
