@@ -6,6 +6,7 @@
 --   Times               times that are high enough for each node alone, and reached by chains
 --   Eased               what a sweep does in whatever order
 --   Swept               what `sweep` does
+--   Listed              a list of edges to sweep along
 -- Assumes nothing.
 use mathlib.Core.Path.{_≡_}
 use mathlib.Core.List.{List}
@@ -60,3 +61,7 @@ pub record Swept (nodes edges : ℕ) (from to count delay lab : List ℕ) (perio
   pub times : Times nodes edges from to count delay lab period after
   pub risen : slack nodes period after + r ≤ slack nodes period before
   pub settled : r ≡ 0 → (kind : List ℕ) → Passed (graph nodes edges kind from to) (at count) (at delay) period (at lab) (at after) (at after)
+
+-- Any list will do: it need not have every edge.
+abbrev pub Listed : List ℕ → ℕ → Type 0
+Listed order edges = (edges ≤ length order) × ((i : ℕ) → i < edges → at order i < edges)

@@ -5,7 +5,7 @@ ghost use Prim.Native.Nat.{ℕ, suc, _+_, _≤_, _<_, min};
 ghost use lib.ListN.{length};
 ghost use Rattle.graph.specs.Columns.{at};
 ghost use Rattle.graph.specs.Chains.{Asked, Arrivals};
-ghost use Rattle.graph.specs.Sweeps.{Readable, Relaxed, Times, Eased, Swept};
+ghost use Rattle.graph.specs.Sweeps.{Readable, Relaxed, Times, Eased, Swept, Listed};
 
 // A time and a delay, where all above the period is the period and one.
 fn later(t: u32, d: u32, period: u32) -> u32
@@ -123,6 +123,68 @@ pub fn settle<'a>(
     let mut raised: u32 = 1;
     while raised != 0 {
         sweep_back(from, to, count, nodes, edges, delay, lab, period, time);
+        raised = sweep(from, to, count, nodes, edges, delay, lab, period, time);
+    }
+}
+
+// One sweep along a list of edges. It saves sweeps where sources stand before what they feed; what it leaves out, `sweep` finds.
+fn sweep_along<'a>(
+    order: &[u16],
+    from: &'a [u16],
+    to: &'a [u16],
+    count: &'a [u8],
+    nodes: usize,
+    edges: usize,
+    delay: &[u32],
+    lab: &[u32],
+    period: u32,
+    time: &mut [u32],
+)
+    requires { ⌜ Asked nodes edges (now from) (now to) (now count) (now delay) (now lab) period ⌝ }
+    requires { ⌜ Times nodes edges (now from) (now to) (now count) (now delay) (now lab) period (now time) ⌝ }
+    requires { ⌜ Listed (now order) edges ⌝ }
+    ensures { λ _. ⌜ Eased nodes edges (now (from .entry)) (now (to .entry)) (now (count .entry)) (now (delay .entry)) (now (lab .entry)) period (now (time .entry)) (now (time .exit)) ⌝ }
+{
+    let mut i = 0;
+    while i < edges {
+        let e = order[i] as usize;
+        relax(from, to, count, e, delay, lab, period, time);
+        i += 1;
+    }
+}
+
+// The same as `settle`, along a list of edges: two sweeps are enough where it is an evaluation order.
+pub fn settle_along<'a>(
+    order: &[u16],
+    from: &'a [u16],
+    to: &'a [u16],
+    count: &'a [u8],
+    nodes: usize,
+    edges: usize,
+    delay: &[u32],
+    lab: &[u32],
+    period: u32,
+    time: &mut [u32],
+)
+    requires { ⌜ Asked nodes edges (now from) (now to) (now count) (now delay) (now lab) period ⌝ }
+    requires { ⌜ (nodes ≤ length (now time)) × Listed (now order) edges ⌝ }
+    ensures { λ _. ⌜ Arrivals nodes edges (now (from .entry)) (now (to .entry)) (now (count .entry)) (now (delay .entry)) (now (lab .entry)) period (now (time .exit)) ⌝ }
+{
+    start_times(delay, nodes, period, time);
+    let mut raised: u32 = 1;
+    while raised != 0 {
+        sweep_along(
+            order,
+            from,
+            to,
+            count,
+            nodes,
+            edges,
+            delay,
+            lab,
+            period,
+            time,
+        );
         raised = sweep(from, to, count, nodes, edges, delay, lab, period, time);
     }
 }

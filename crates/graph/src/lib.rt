@@ -5,9 +5,11 @@ mod reach;
 mod sort;
 
 pub use chains::settle;
+pub use chains::settle_along;
 pub use reach::any_above;
 pub use reach::fan_ins;
 pub use reach::looped;
 pub use reach::reached;
 pub use sort::by_rank;
+pub use sort::edges_by_rank;
 pub use sort::sort_by;

@@ -3,12 +3,14 @@
 use crate::Labels;
 use crate::start::first_labels;
 use graph::any_above;
-use graph::settle;
+use graph::edges_by_rank;
+use graph::settle_along;
 use netlist::Netlist;
 ghost use mathlib.Core.Path.{_≡_};
 ghost use Prim.Native.Nat.{_≤_, _<_};
 ghost use lib.ListN.{length};
 ghost use Rattle.graph.specs.Columns.{at, Told};
+ghost use Rattle.graph.specs.Sweeps.{Listed};
 ghost use Rattle.netlist.specs.Net.{working};
 ghost use Rattle.lags.specs.Lags.{Sure, Leasts};
 ghost use Rattle.lags.specs.Rounds.{Delayed, Low, Arrived, LatePin, Lifted};
@@ -34,17 +36,29 @@ fn working_delays(delay: &[u8], derate: u8, nodes: usize) -> [u32; 512]
     out
 }
 
+// The edges in an order in which the sweeps of a round have little to do.
+fn order_of(net: Netlist) -> [u16; 1024]
+    requires { ⌜ Sure net ⌝ }
+    ensures { λ r. ⌜ Listed r (net .edges) ⌝ }
+{
+    let nodes = net.nodes as usize;
+    let edges = net.edges as usize;
+    edges_by_rank(&net.from, &net.to, &net.count, nodes, edges)
+}
+
 // The arrival times under the labels.
-fn arrivals(net: Netlist, delay: &[u32], lab: &[u32], period: u32) -> [u32; 512]
+fn arrivals(net: Netlist, order: &[u16], delay: &[u32], lab: &[u32], period: u32) -> [u32; 512]
     requires { ⌜ Sure net × (period < 1000000) ⌝ }
     requires { ⌜ Delayed (net .delay) (net .derate) (net .nodes) (now delay) × (net .nodes ≤ length (now delay)) ⌝ }
     requires { ⌜ Low (net .nodes) (now lab) × (net .nodes ≤ length (now lab)) ⌝ }
+    requires { ⌜ Listed (now order) (net .edges) ⌝ }
     ensures { λ r. ⌜ Arrived net period (now (lab .entry)) r ⌝ }
 {
     let mut time = [0u32; 512];
     let nodes = net.nodes as usize;
     let edges = net.edges as usize;
-    settle(
+    settle_along(
+        order,
         &net.from,
         &net.to,
         &net.count,
@@ -94,10 +108,11 @@ pub fn least(net: Netlist, period: u32) -> Labels
 {
     let nodes = net.nodes as usize;
     let delay = working_delays(&net.delay, net.derate, nodes);
+    let order = order_of(net);
     let mut lab = first_labels(net);
     let mut round = 0;
     while round < nodes {
-        let time = arrivals(net, &delay, &lab, period);
+        let time = arrivals(net, &order, &delay, &lab, period);
         if late_pin(&net.kind, &time, nodes, period) {
             return Labels { found: false, lab };
         }
@@ -107,7 +122,7 @@ pub fn least(net: Netlist, period: u32) -> Labels
         raise(&time, nodes, period, &mut lab);
         round += 1;
     }
-    let last = arrivals(net, &delay, &lab, period);
+    let last = arrivals(net, &order, &delay, &lab, period);
     let found = !any_above(&last, nodes, period);
     Labels { found, lab }
 }
