@@ -4,7 +4,7 @@
 --   fan-few                    a node has eight in-edges at most
 --   plan-evaluable             the columns of a plan can be evaluated
 --   Right, right-more          the signals of the inputs, of the plan's first n nodes and of the registers are right; one node more
---   right-values, right-shows  after all of them, each node's signal is its value, and the registers show what they did
+--   right-values               after all of them, each node's signal is its value
 -- Assumes nothing.
 use Prim.Native.Nat.{ℕ, zero, suc, _+_, _-_, _<_, _≤_}
 use native.Mathlib.Omega.{arith}
@@ -39,7 +39,7 @@ use Rattle.simulate.proofs.Signals.{evaluated-length}
 
 -- ── What is gathered ────────────────────────────────────────────────────────────────────────
 
-gather-map : (g dst f : ℕ → ℕ) (v n : ℕ) → map g (gather dst f v n) ≡ gather dst (λ e. g (f e)) v n
+pub gather-map : (g dst f : ℕ → ℕ) (v n : ℕ) → map g (gather dst f v n) ≡ gather dst (λ e. g (f e)) v n
 unfolding gather only
 gather-map g dst f v zero = refl
 gather-map g dst f v (suc n) = map-append g (gather dst f v n) (only (eqb (dst n) v) f n) ∙ ap₂ _++_ (gather-map g dst f v n) (last (eqb (dst n) v))
@@ -49,7 +49,7 @@ gather-map g dst f v (suc n) = map-append g (gather dst f v n) (only (eqb (dst n
     last false = refl
 
 -- By cases at the last one.
-ones-few : (dst f : ℕ → ℕ) (v n : ℕ) → ((e : ℕ) → e < n → f e ≤ 1) → total (gather dst f v n) ≤ length (gather dst f v n)
+pub ones-few : (dst f : ℕ → ℕ) (v n : ℕ) → ((e : ℕ) → e < n → f e ≤ 1) → total (gather dst f v n) ≤ length (gather dst f v n)
 unfolding gather
 ones-few dst f v zero h = omega arith
 ones-few dst f v (suc n) h = go (ℕ-discrete (dst n) v) (ones-few dst f v n (λ e l. h e (omega arith)))
@@ -115,7 +115,7 @@ module _ (net : Netlist) (p : Plan) (plan : Planned net p) (ok : Steppable net) 
     part-length : (v : ℕ) → v < net .nodes → at (p .first) (suc v) - at (p .first) v ≡ fan-in (graphOf net) v
     part-length v h =
         let n = at (p .first) (suc v) - at (p .first) v in
-        let l : length (part v) ≡ n = omega (arith, length-take n (drop (at (p .first) v) (p .sees)), length-drop (at (p .first) v) (p .sees), plan .range v h .0, plan .range v h .1, rows .2) in
+        let l : length (part v) ≡ n = omega (arith, length-take n (drop (at (p .first) v) (p .sees)), length-drop (at (p .first) v) (p .sees), plan .range v h .0, plan .range v h .1, edges-few, rows .2) in
         sym l ∙ ap length (plan .ins v h) ∙ gather-length (at (net .to)) (signal net) (λ e. e) v (net .edges)
 
     node-placed : (v : ℕ) → v < net .nodes → Placed (p .first) (p .sees) (p .truth) 1536 v
@@ -127,7 +127,7 @@ module _ (net : Netlist) (p : Plan) (plan : Planned net p) (ok : Steppable net) 
           in-truth = omega (arith, nodes-few, rows .3);
           up = r .0;
           few = omega (arith, fan-few net ok v h, r .0);
-          in-sees = omega (arith, rows .2, r .1);
+          in-sees = omega (arith, rows .2, r .1, edges-few);
           signals = λ k a b. one k a b;
         }
       where
@@ -263,6 +263,3 @@ module _ (net : Netlist) (p : Plan) (plan : Planned net p) (ok : Steppable net) 
         go (no q) =
             let w = plan .every v h q in
             subst (λ u. at (evaluated (p .node) (p .first) (p .sees) (p .truth) (p .gates) sig) u ≡ now u) (w .2) (right-end sig l r .done (w .0) (w .1))
-
-    pub right-shows : (sig : List ℕ) → length sig ≡ 1536 → Right sig 0 → Shows net words (evaluated (p .node) (p .first) (p .sees) (p .truth) (p .gates) sig)
-    right-shows sig l r = right-end sig l r .shows

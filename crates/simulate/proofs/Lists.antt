@@ -3,7 +3,6 @@
 --   gather-like         what is gathered depends on what is looked at
 --   gather-length       how many are gathered does not depend on what is gathered of each
 --   before-hit, before-miss    how many of a kind stand before the next node
---   before-le           no more than all nodes before it
 --   before-less         a node of the kind has a place among all of that kind
 --   joined-first        joined lists, the first apart
 --   rows-length, rows-at, rows-past    n rows of one number each, and what stands past them
@@ -68,15 +67,6 @@ module _ (net : Netlist) (k : ℕ) where
   pub before-miss : (v : ℕ) → ¬ (graphOf net .kind v ≡ k) → before net k (suc v) ≡ before net k v
   unfolding before
   before-miss v q = ap length (gather-miss (graphOf net .kind) (λ u. u) k v q)
-
-  pub before-le : (v : ℕ) → before net k v ≤ v
-  unfolding before gather
-  before-le zero = omega arith
-  before-le (suc v) = go (ℕ-discrete (graphOf net .kind v) k) (before-le v)
-    where
-      go : Dec (graphOf net .kind v ≡ k) → before net k v ≤ v → before net k (suc v) ≤ suc v
-      go (yes q) l = omega (arith, before-hit v q)
-      go (no q) l = omega (arith, before-miss v q)
 
   pub before-less : (v n : ℕ) → graphOf net .kind v ≡ k → v < n → before net k v < before net k n
   before-less v zero q h = absurd (omega arith)

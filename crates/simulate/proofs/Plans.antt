@@ -26,11 +26,10 @@ use Rattle.netlist.specs.Read.{All}
 use Rattle.netlist.specs.Theorems.{Fit}
 use Rattle.netlist.proofs.Fits.{node-fits}
 use Rattle.netlist.proofs.Lowest.{few}
-use Rattle.netlist.proofs.Run.{fit-rows}
 use Rattle.simulate.specs.declared.plan.Plan.{Plan}
 use Rattle.simulate.specs.Plan.{signal, Planned}
 use Rattle.simulate.specs.Parts.{Truth, Kept, seen}
-use Rattle.simulate.proofs.Seen.{first-rises, first-low, seen-count, seen-signals}
+use Rattle.simulate.proofs.Seen.{ins-edge, first-rises, first-low, seen-count, seen-signals}
 
 -- ── Loops ───────────────────────────────────────────────────────────────────────────────────
 
@@ -90,12 +89,13 @@ module _ (net : Netlist) (p : Plan) (f : Fit net) (order : List ℕ) (o : Ordere
       → net .edges ≤ length (p .sees) → ((k : ℕ) → k < net .edges → at (p .sees) k ≡ signal net (at ins k))
       → ((v : ℕ) → v < net .nodes → Truth (at (net .kind) v) (seen (p .first) v) (at (p .truth) v))
       → ((w : ℕ) → w < 256 → at (p .ones) w ≡ ones w) → Planned net p
-  planned room s rows signals truths counts = record {
+  planned {old} {ins} room s rows signals truths counts = record {
     few = omega (arith, kept .few, few net f);
     gate = gate-in;
     every = gate-every;
     after = gate-after;
-    range = λ v h. (first-rises net f room s v h, omega (arith, first-low net f room s (suc v) h, fit-rows net f .1));
+    range = λ v h. (first-rises net f room s v h, first-low net f room s (suc v) h);
+    each = λ k h. (at ins k, ins-edge net f room s k h, signals k h);
     ins = seen-signals net f room s (signal net) (p .sees) rows signals;
     truth = λ v k h. subst (λ n. k ≤ n → bit (at (p .truth) v) k ≡ gateBy (at (net .kind) v) n k) (seen-count net f room s v h) (truths v h k);
     counts = counts;

@@ -3,7 +3,7 @@
 --   net-movable         its words can be moved on
 --   ReadyFor, ClockedBy     what `clock` asks and does, with a plan's columns and a netlist's
 --   clock-ready         what it asks is there
---   clock-puts, clock-leaves, clock-shows    what it does is one clock: outputs, words, what each edge shows
+--   clock-puts, clock-leaves    what it does is one clock: outputs, words
 --   clock-size, clock-bits    its signals are as many as before, and bits
 --   Running, running-start, running-ready, running-turn, running-end    the loop
 -- Assumes nothing.
@@ -11,13 +11,11 @@ use Prim.Native.Nat.{ℕ, suc, _+_, _-_, _*_, _<_, _≤_}
 use native.Mathlib.Omega.{arith}
 use native.Mathlib.Nat.{suc-mul, mul-le-mul-right}
 use native.Mathlib.Numerals.{add-one}
-use native.Mathlib.Decide.{ℕ-discrete}
 use mathlib.Core.Path.{_≡_, refl, sym, ap, ap₂, _∙_, subst}
-use mathlib.Core.Bool.{true, cond}
+use mathlib.Core.Bool.{true}
 use mathlib.Core.List.{List, [], _∷_, _++_, append-assoc, append-nil}
 use lib.ListN.{length, take, drop, length-append, replicate}
 use lib.Seq.{sets, length-sets, getD-take, getD-drop, drop-drop}
-use borrow.Author.Tests.{eq-eqb, ne-eqb}
 use Rattle.frame.proofs.Laws.{sets-sets}
 use Rattle.theory.proofs.clocks.Seen.{gather-same}
 use Rattle.graph.specs.Columns.{at}
@@ -35,13 +33,13 @@ use Rattle.simulate.specs.declared.plan.Plan.{Plan}
 use Rattle.simulate.specs.Clock.{before, inputs, outputs, byteOf, values, outputValues, moved-on, wordsAfter}
 use Rattle.simulate.specs.Step.{bits}
 use Rattle.simulate.specs.Run.{clocksFrom}
-use Rattle.simulate.specs.Plan.{signal, Planned}
+use Rattle.simulate.specs.Plan.{Planned}
 use Rattle.simulate.specs.Signals.{Bits, Evaluable, movedOn, Movable, Ready, Clocked}
 use Rattle.simulate.specs.Ran.{Steppable, Runnable, wordsFrom, Ran}
 use Rattle.simulate.proofs.Lists.{before-less, bits-at, bits-take, bits-drop}
-use Rattle.simulate.proofs.Clock.{shown, shown-none, shown-some, Fits, fit-words, fits-after, value-input, output-length}
+use Rattle.simulate.proofs.Clock.{shown, Fits, fit-words, fits-after, value-input, output-length}
 use Rattle.simulate.proofs.Signals.{evaluated-length, evaluated-bits, moved-length}
-use Rattle.simulate.proofs.Evaluated.{plan-evaluable, Right, right-values, right-shows}
+use Rattle.simulate.proofs.Evaluated.{plan-evaluable, Right, right-values}
 
 -- Reading puts nothing out.
 pub reads-zero : {t : List ℕ} {n : ℕ} {net : Netlist} → Reads t (value n) net → n ≡ 0
@@ -129,19 +127,6 @@ module _ (net : Netlist) (p : Plan) (plan : Planned net p) (ok : Steppable net) 
         ∙ ap (λ l. l ++ drop (net .edges) words)
         (joined-same _ _ (net .edges)
         (λ e h. ap (λ x. moved-on (at (net .count) e) (at words e) x ∷ []) (ends (at (net .from) e) (fit-wired net (ok .fit) .src-in e h))))
-
-    -- Its source's signal, or with its own register.
-    pub clock-shows : (e : ℕ) → e < net .edges → at sig′ (signal net e) ≡ shown net words (values net words vector) e
-    clock-shows e h = go (ℕ-discrete (at (net .count) e) 0)
-      where
-        go : Dec (at (net .count) e ≡ 0) → at sig′ (signal net e) ≡ shown net words (values net words vector) e
-        go (yes z) =
-            ap (λ t. at sig′ (cond t (at (net .from) e) (512 + e))) (eq-eqb (at (net .count) e) 0 z)
-            ∙ ends (at (net .from) e) (fit-wired net (ok .fit) .src-in e h) ∙ sym (shown-none net words (values net words vector) e z)
-        go (no z) =
-            ap (λ t. at sig′ (cond t (at (net .from) e) (512 + e))) (ne-eqb (at (net .count) e) 0 z)
-            ∙ ap (λ s. at s (512 + e)) (c .evaluates) ∙ right-shows net p plan ok words vector b (c .shown) (c .size ∙ size) starts e h
-            ∙ sym (shown-some net words (values net words vector) e (omega arith))
 
     pub clock-size : length sig′ ≡ 1536
     clock-size = ap length (c .evaluates) ∙ evaluated-length (p .node) (p .first) (p .sees) (p .truth) (c .shown) (p .gates) ∙ c .size ∙ size

@@ -7,7 +7,7 @@
 -- Assumes nothing.
 use Prim.Native.Nat.{ℕ, zero, suc, _+_, _≤_, _<_}
 use native.Mathlib.Omega.{arith}
-use mathlib.Core.Path.{_≡_, refl, sym, ap, ap₂, _∙_}
+use mathlib.Core.Path.{_≡_, refl, ap, ap₂, _∙_}
 use mathlib.Core.Bool.{Bool, true, false}
 use mathlib.Core.List.{List, _∷_, _++_, map, map-append}
 use lib.ListN.{length, take, drop, length-append}
@@ -32,7 +32,7 @@ gather-map dst f v (suc n) = rw map-append (ap₂ _++_ (gather-map dst f v n) (l
     last true = refl
     last false = refl
 
-part-map : (f : ℕ → ℕ) (xs ys : List ℕ) (n b : ℕ) → b + n ≤ length xs → b + n ≤ length ys → ((k : ℕ) → k < b + n → at ys k ≡ f (at xs k))
+pub part-map : (f : ℕ → ℕ) (xs ys : List ℕ) (n b : ℕ) → b + n ≤ length xs → b + n ≤ length ys → ((k : ℕ) → k < b + n → at ys k ≡ f (at xs k))
     → take n (drop b ys) ≡ map f (take n (drop b xs))
 part-map f xs ys zero b h l w = refl
 part-map f xs ys (suc n) b h l w =

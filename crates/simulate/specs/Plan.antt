@@ -28,8 +28,9 @@ pub record Planned (net : Netlist) (p : Plan) : Type 0 where
   pub every : (v : ℕ) → v < net .nodes → ¬ (at (net .kind) v ≡ 0) → (i : ℕ) × (i < p .gates) × (at (p .node) i ≡ v)
   pub after : (i e : ℕ) → i < p .gates → e < net .edges → at (net .to) e ≡ at (p .node) i → at (net .count) e ≡ 0
       → (at (net .kind) (at (net .from) e) ≡ 0) ⊎ ((j : ℕ) × (j < i) × (at (p .node) j ≡ at (net .from) e))
-  -- What node v sees stands from place `first v` on, in the order of the edges.
-  pub range : (v : ℕ) → v < net .nodes → (at (p .first) v ≤ at (p .first) (suc v)) × (at (p .first) (suc v) ≤ 1024)
+  -- What node v sees stands from place `first v` on, in the order of the edges; each place holds the signal of an edge.
+  pub range : (v : ℕ) → v < net .nodes → (at (p .first) v ≤ at (p .first) (suc v)) × (at (p .first) (suc v) ≤ net .edges)
+  pub each : (k : ℕ) → k < net .edges → (e : ℕ) × (e < net .edges) × (at (p .sees) k ≡ signal net e)
   pub ins : (v : ℕ) → v < net .nodes
       → take (at (p .first) (suc v) - at (p .first) v) (drop (at (p .first) v) (p .sees)) ≡ gather (at (net .to)) (signal net) v (net .edges)
   -- Bit k of a node's truth word is its value when k of its inputs are 1; `ones` counts the ones of a word.

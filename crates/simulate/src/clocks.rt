@@ -1,5 +1,5 @@
 // One clock, over columns: nothing is copied. sig holds each node's signal, and from 512 on what each edge shows from its register; words each edge's word.
-// Required: a plan of a netlist that passed the rules, and buffers of its sizes. `clocks_of` has them, and retiming, which steps the original.
+// Required: a plan of a netlist that passed the rules, and buffers of its sizes. `clocks_of` has them.
 ghost use mathlib.Core.Path.{_≡_};
 ghost use Prim.Native.Nat.{ℕ, _+_, _^_, _<_, _≤_};
 ghost use lib.Count.{ones as onesOf};

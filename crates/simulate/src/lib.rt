@@ -1,13 +1,13 @@
 // Clocks: stepping a netlist record, and running a text. The promises are in specs/: Clock, Step, Run, Theorems.
 mod checks;
-// For retiming, which steps the original: the plan of a netlist, and one clock by it. Internal: both have `requires`.
-pub mod clocks;
+mod clocks;
 mod gates;
 mod plan;
 mod running;
 mod stepping;
 
 use netlist::Answer;
+// For retiming, which evaluates the original. Internal: `plan_of` has `requires`.
 pub use plan::Plan;
 pub use plan::plan_of;
 pub use running::run;

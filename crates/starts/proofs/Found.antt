@@ -4,29 +4,28 @@
 --   wanted-in, wanted-late, wanted-early    what `wanted` says
 --   enough-more         how many clocks are enough
 --   raise               a clock adds one start value exactly where it is wanted
---   taken-hit, taken-miss    so for an edge's word
+--   wanted-no-more, wanted-not-yet    nothing is wanted of an edge
+--   Listed, jump-none, jump-more, listed-more    the list of the edges that are to be looked at, from the last one down
+--   taken-hit, taken-on    an edge's word after a clock; edges that are passed over
 --   start-bit           new start values are bits
---   silent-bits, silent-zeros    zeros are bits; the vector of zeros
 --   Starting            the loop over the clocks
 --   starting-start, starting-end    it begins with the chosen ones, and ends with all
---   starting-ready, starting-size, starting-takable, starting-turn    one clock
+--   starting-holds, starting-takable, starting-turn    one clock
 --   moved-is            the netlist with the new counts and start values is the moved one
 -- Assumes nothing.
 use Prim.Native.Nat.{ℕ, suc, _+_, _*_, _-_, _^_, _/_, _%_, _≤_, _<_, min}
 use native.Mathlib.Omega.{arith}
 use native.Mathlib.Nat.{pow-suc, lt-of-lt-of-le}
-use native.Mathlib.Numerals.{add-one}
-use native.Mathlib.Decide.{decLt, decLe}
-use mathlib.Core.Path.{_≡_, refl, sym, subst, ap, ap₂, _∙_}
+use native.Mathlib.Decide.{ℕ-discrete, decLt, decLe}
+use mathlib.Core.Path.{_≡_, sym, subst, ap, ap₂, _∙_}
 use mathlib.Core.Bool.{true, false, cond}
-use mathlib.Core.List.{List, [], _∷_}
+use mathlib.Core.List.{List}
 use lib.Arith.{digits-lt}
 use lib.Dec.{leb, ltb}
-use lib.ListN.{length, set, replicate}
+use lib.ListN.{length, set}
 use lib.Pow.{pow-mono}
-use lib.Seq.{length-sets}
+use lib.Seq.{getD-set-same, getD-set-other}
 use borrow.Author.Tests.{ltb-true, leb-true, lt-ltb, le-ltb, le-leb, lt-leb}
-use Rattle.theory.specs.Clock.{gather}
 use Rattle.theory.specs.Gate.{gate}
 use Rattle.theory.specs.Lag.{up}
 use Rattle.theory.specs.Move.{move, choiceOf, digit}
@@ -35,29 +34,23 @@ use Rattle.theory.proofs.moves.Best.{choice-bit}
 use Rattle.theory.proofs.retimer.Kept.{sound-new}
 use Rattle.graph.specs.Columns.{at}
 use Rattle.netlist.specs.declared.Netlist.{Netlist}
-use Rattle.netlist.specs.Net.{zeros, graphOf, regsOf}
+use Rattle.netlist.specs.Net.{graphOf, regsOf}
 use Rattle.netlist.proofs.Fits.{both}
-use Rattle.netlist.proofs.Rows.{zeros-at}
 use Rattle.simulate.specs.declared.plan.Plan.{Plan}
-use Rattle.simulate.specs.Clock.{before, byteOf, values, wordsAfter}
 use Rattle.simulate.specs.Plan.{Planned}
-use Rattle.simulate.specs.Signals.{Bits}
-use Rattle.simulate.specs.Step.{bits}
-use Rattle.simulate.proofs.Lists.{before-le}
-use Rattle.simulate.proofs.Clock.{shown, Fits, start-fits}
-use Rattle.simulate.proofs.Signals.{moved-length}
-use Rattle.simulate.proofs.Ran.{ReadyFor, ClockedBy, clock-ready, clock-leaves, clock-shows, clock-size, clock-bits}
 use Rattle.lags.specs.Lags.{lagOf}
 use Rattle.lags.proofs.Laws.{lag-label}
 use Rattle.moves.specs.Labels.{lagsOf, chosenAt}
 use Rattle.moves.specs.Moving.{Moving}
 use Rattle.moves.specs.Moved.{wordOf, movedNet, Filled, none, withColumns}
-use Rattle.starts.specs.Starts.{startAt, chosenWord, Rising, Enough, shownAt, wanted, takenAt, Takable, startsAt}
+use Rattle.starts.specs.Ring.{row, Empty, Cells, evaluated}
+use Rattle.starts.specs.Starts.{startAt, chosenWord, Rising, Enough, Jump, Ahead, shownAt, wanted, takenAt, Takable, startsAt}
 use Rattle.moves.proofs.Words.{sum-same, word-fits}
 use Rattle.moves.proofs.Labels.{up-high, up-low, from-node, to-node, low-nodes, low-edges, all-more, sum-more, sum-grows}
-use Rattle.moves.proofs.Fills.{filled-more, filled-kept}
+use Rattle.moves.proofs.Fills.{filled-more, filled-on}
 use Rattle.moves.proofs.Moved.{with-is}
-use Rattle.starts.proofs.Quiet.{new-chosen, wordsIn, Silent, fits-in, new-shown}
+use Rattle.starts.proofs.Quiet.{new-chosen, new-seen}
+use Rattle.starts.proofs.Held.{edge-width, Holds, holds-start, shown-right, holds-next}
 
 -- ── Words ───────────────────────────────────────────────────────────────────────────────────
 
@@ -104,21 +97,56 @@ raise f n p word x q new = go (decLe 16384 p) (decLt (p - 16384) n)
     go (yes l) (no h) = rw (le-leb 16384 p l, le-ltb (p - 16384) n (omega arith)) (q ∙ ap (wordOf f) (let z : min n (p - 16384) ≡ min n (p + 1 - 16384) = omega arith in z))
     go (no l) h = rw (lt-leb 16384 p (omega arith)) (q ∙ ap (wordOf f) (let z : min n (p - 16384) ≡ min n (p + 1 - 16384) = omega arith in z))
 
+-- ── Edges of which nothing is wanted ────────────────────────────────────────────────────────
+
+module _ (n p : ℕ) where
+  pub wanted-no-more : n + 16384 ≤ p → wanted n p ≡ false
+  unfolding wanted
+  wanted-no-more h = rw (le-leb 16384 p (omega arith), le-ltb (p - 16384) n (omega arith))
+
+  pub wanted-not-yet : p < 16384 → wanted n p ≡ false
+  unfolding wanted
+  wanted-not-yet h = rw (lt-leb 16384 p h)
+
+-- From edge e on, the list tells for the clocks from s up to s + 32 where the next one is.
+abbrev pub Listed : List ℕ → List ℕ → List ℕ → ℕ → ℕ → ℕ → List ℕ → Type 0
+Listed to lab counts edges s e next = (j : ℕ) → e ≤ j → j ≤ edges → (t : ℕ) → s ≤ t → t < s + 32 → Jump to lab counts edges t j (at next j)
+
+module _ (to lab counts : List ℕ) (edges : ℕ) where
+  pub jump-none : (t e : ℕ) → e ≤ edges → Jump to lab counts edges t e e
+  jump-none t e h = record { on = omega arith; within = h; idle = λ j a b. absurd (let z : ⊥ = omega arith in z) }
+
+  pub jump-more : (t e n : ℕ) → wanted (at counts e) (t + at lab (at to e)) ≡ false → Jump to lab counts edges t (e + 1) n → Jump to lab counts edges t e n
+  jump-more t e n q w = record { on = omega (arith, w .on); within = w .within; idle = λ j a b. go j a b (ℕ-discrete j e) }
+    where
+      go : (j : ℕ) → e ≤ j → j < n → Dec (j ≡ e) → wanted (at counts j) (t + at lab (at to j)) ≡ false
+      go j a b (yes z) = ap (λ i. wanted (at counts i) (t + at lab (at to i))) z ∙ q
+      go j a b (no z) = w .idle j (omega arith) b
+
+  pub listed-more : (s e n : ℕ) (next : List ℕ) → e < length next → ((t : ℕ) → s ≤ t → t < s + 32 → Jump to lab counts edges t e n)
+      → Listed to lab counts edges s (e + 1) next → Listed to lab counts edges s e (set next e n)
+  listed-more s e n next h q w j a b t c d = go (ℕ-discrete j e)
+    where
+      go : Dec (j ≡ e) → Jump to lab counts edges t j (at (set next e n) j)
+      go (yes z) = subst (λ i. Jump to lab counts edges t i (at (set next e n) i)) (sym z) (subst (Jump to lab counts edges t e) (sym (getD-set-same next e n 0 h)) (q t c d))
+      go (no z) = subst (Jump to lab counts edges t j) (sym (getD-set-other next e j n 0 z)) (w j (omega arith) b t c d)
+
 -- ── One clock taken, an edge at a time ──────────────────────────────────────────────────────
 
-module _ (from to count lab counts : List ℕ) (s : ℕ) (sig old : List ℕ) (e : ℕ) (new : List ℕ) (w : Filled (takenAt from to count lab counts s sig old) (at old) e new) where
+module _ (from to count start lab counts : List ℕ) (s : ℕ) (ring old : List ℕ) (e : ℕ) (new : List ℕ)
+    (w : Filled (takenAt from to count start lab counts s ring old) (at old) e new) where
   pub taken-hit : wanted (at counts e) (s + at lab (at to e)) ≡ true → e < length new
-      → (word x : ℕ) → word ≡ at new e + x * 2 ^ (s + at lab (at to e) - 16384) → x ≡ shownAt from count sig e
-      → Filled (takenAt from to count lab counts s sig old) (at old) (e + 1) (set new e word)
+      → (word x : ℕ) → word ≡ at new e + x * 2 ^ (s + at lab (at to e) - 16384) → x ≡ shownAt from count start s ring e
+      → Filled (takenAt from to count start lab counts s ring old) (at old) (e + 1) (set new e word)
   taken-hit t h word x p q =
       let n = 2 ^ (s + at lab (at to e) - 16384) in
-      filled-more (takenAt from to count lab counts s sig old) (at old) new e word h
-      (p ∙ ap₂ (λ y z. y + z * n) (w .past e (omega arith)) q ∙ ap (λ b. cond b (at old e + shownAt from count sig e * n) (at old e)) (sym t)) w
+      filled-more (takenAt from to count start lab counts s ring old) (at old) new e word h
+      (p ∙ ap₂ (λ y z. y + z * n) (w .past e (omega arith)) q ∙ ap (λ b. cond b (at old e + shownAt from count start s ring e * n) (at old e)) (sym t)) w
 
-  pub taken-miss : wanted (at counts e) (s + at lab (at to e)) ≡ false → Filled (takenAt from to count lab counts s sig old) (at old) (e + 1) new
-  taken-miss t =
-      filled-kept (takenAt from to count lab counts s sig old) (at old) new e
-      (ap (λ b. cond b (at old e + shownAt from count sig e * 2 ^ (s + at lab (at to e) - 16384)) (at old e)) (sym t)) w
+  pub taken-on : (edges n : ℕ) → Jump to lab counts edges s e n → Filled (takenAt from to count start lab counts s ring old) (at old) n new
+  taken-on edges n j =
+      filled-on (takenAt from to count start lab counts s ring old) (at old) new e n (j .on)
+      (λ i a b. ap (λ b. cond b (at old i + shownAt from count start s ring i * 2 ^ (s + at lab (at to i) - 16384)) (at old i)) (sym (j .idle i a b))) w
 
 -- ── The chosen values ───────────────────────────────────────────────────────────────────────
 
@@ -163,81 +191,60 @@ module _ (net : Netlist) (lab counts base : List ℕ) (k c : ℕ) (m : Moving ne
 
 -- ── The loop ────────────────────────────────────────────────────────────────────────────────
 
-silent-bits : (l : List ℕ) → Silent l → bits l ≡ true
-unfolding bits
-silent-bits [] s = refl
-silent-bits (b ∷ l) s = rw (le-leb b 1 (omega (arith, s 0))) (silent-bits l (λ i. s (suc i)))
-
-pub silent-zeros : Silent (replicate 512 0)
-unfolding zeros
-silent-zeros = zeros-at 512
-
--- After s clocks: the words of the original are those that s clocks leave, and of each edge's start values the chosen ones and those of the first s clocks are found.
-pub record Starting (net : Netlist) (lab counts : List ℕ) (c : ℕ) (vector : List ℕ) (clocks s : ℕ) (sig state words out : List ℕ) : Type 0 where
+-- After s clocks: their values are in the ring; of each edge's start values the chosen ones and those of the first s clocks are found.
+pub record Starting (net : Netlist) (lab counts : List ℕ) (c : ℕ) (p : Plan) (clocks s : ℕ) (ring cells next words : List ℕ) (until : ℕ) : Type 0 where
   pub low : s ≤ clocks
-  pub sig-size : length sig ≡ 1536
-  pub sig-bits : Bits sig
-  pub out-size : length out ≡ 512
-  pub state-size : length state ≡ 1024
-  pub goes : state ≡ wordsIn net vector s
+  pub holds : Holds net p s 0 ring
+  pub cells-size : length cells ≡ 1024
+  pub placed : Cells (p .sees) (net .from) (net .count) (net .start) (net .edges) s cells
+  pub next-size : length next ≡ 1025
+  pub ahead : Ahead (net .to) lab counts (net .edges) next s until
   pub words-size : length words ≡ 1024
   pub found : Filled (foundAt net lab counts c s) none (net .edges) words
 
-module _ (net : Netlist) (lab counts base : List ℕ) (k c : ℕ) (m : Moving net lab counts base k) (vector : List ℕ) (silent : Silent vector) (clocks : ℕ) where
-  pub starting-start : length (net .start) ≡ 1024 → (sig out words : List ℕ) → length sig ≡ 1536 → Bits sig → length out ≡ 512 → length words ≡ 1024
-      → Filled (λ e. chosenWord c k (at base e) (at base (e + 1))) none (net .edges) words → Starting net lab counts c vector clocks 0 sig (net .start) words out
-  unfolding wordsIn
-  starting-start size sig out words a b o l f = record {
+module _ (net : Netlist) (lab counts base : List ℕ) (k c : ℕ) (m : Moving net lab counts base k) (p : Plan) (clocks : ℕ) where
+  pub starting-start : (ring cells next words : List ℕ) → length ring ≡ 32770 → Empty ring
+      → length cells ≡ 1024 → Cells (p .sees) (net .from) (net .count) (net .start) (net .edges) 0 cells → length next ≡ 1025 → length words ≡ 1024
+      → Filled (λ e. chosenWord c k (at base e) (at base (e + 1))) none (net .edges) words → Starting net lab counts c p clocks 0 ring cells next words 0
+  starting-start ring cells next words size empty l placed n o f = record {
     low = omega arith;
-    sig-size = a;
-    sig-bits = b;
-    out-size = o;
-    state-size = size;
-    goes = refl;
-    words-size = l;
+    holds = holds-start net p (low-nodes net lab (m .labelled)) ring size empty;
+    cells-size = l;
+    placed = placed;
+    next-size = n;
+    ahead = λ t a b. absurd (let z : ⊥ = omega arith in z);
+    words-size = o;
     found = record { rows = λ e h. f .rows e h ∙ chosen-found net lab counts base k c m e h; past = f .past };
   }
 
-  pub starting-end : Enough (net .to) lab counts (net .edges) clocks → (s : ℕ) (sig state words out : List ℕ) → clocks ≤ s
-      → Starting net lab counts c vector clocks s sig state words out → Filled (startsAt net lab counts c) none (net .edges) words
-  starting-end enough s sig state words out h w = record {
+  pub starting-end : Enough (net .to) lab counts (net .edges) clocks → (s : ℕ) (ring cells next words : List ℕ) (until : ℕ) → clocks ≤ s
+      → Starting net lab counts c p clocks s ring cells next words until → Filled (startsAt net lab counts c) none (net .edges) words
+  starting-end enough s ring cells next words until h w = record {
     rows = λ e l.
         w .found .rows e l
         ∙ ap (wordOf (startAt net lab c e)) (let z : min (at counts e) (s + at lab (at (net .to) e) - 16384) ≡ at counts e = omega (arith, enough e l) in z);
     past = w .found .past;
   }
 
-  module _ (p : Plan) (plan : Planned net p) (s : ℕ) (sig state words out : List ℕ) (w : Starting net lab counts c vector clocks s sig state words out) where
-    pub starting-ready : length vector ≡ 512
-        → (length (p .node) ≡ 512) × (length (p .first) ≡ 513) × (length (p .sees) ≡ 1024) × (length (p .truth) ≡ 512) × (length (p .ones) ≡ 256)
-        → (length (net .kind) ≡ 512) × (length (net .from) ≡ 1024) × (length (net .count) ≡ 1024)
-        → ReadyFor net p vector 0 sig state out 0
-    starting-ready size prows rows =
-        let few = low-nodes net lab (m .labelled) in
-        clock-ready net p plan (m .steppable) prows rows vector 0 (omega (arith, before-le net 0 (net .nodes))) (λ i. omega (arith, silent i)) sig (w .sig-size) (w .sig-bits)
-        state (w .state-size) (subst (Fits net) (sym (w .goes)) (fits-in net (m .sound) (start-fits net (m .steppable .fit)) vector silent s))
-        out 0 (omega (arith, before-le net 1 (net .nodes), w .out-size))
+  module _ (plan : Planned net p) (s : ℕ) (ring cells next words : List ℕ) (until : ℕ) (w : Starting net lab counts c p clocks s ring cells next words until) (h : s < clocks) where
+    pub starting-holds : length (p .sees) ≡ 1024 → (ring′ : List ℕ) → ring′ ≡ evaluated (p .node) (p .first) (p .truth) cells (row s) (p .gates) ring → Holds net p (s + 1) 0 ring′
+    starting-holds rows ring′ q = holds-next net p plan (m .steppable) s cells (w .cells-size) rows (w .placed) ring ring′ (w .holds) q
 
-    module _ (sig′ state′ out′ : List ℕ) (t : ClockedBy net p vector 0 sig state out 0 sig′ state′ out′) where
-      bytes : (v : ℕ) → v < net .nodes → at (net .kind) v ≡ 0 → at vector (0 + before net 0 v) ≡ byteOf net vector v
-      bytes v h q = ap (at vector) (let z : 0 + before net 0 v ≡ before net 0 v = omega arith in z)
-
-      pub starting-size : length sig′ ≡ 1536
-      starting-size = clock-size net p plan (m .steppable) state vector (silent-bits vector silent) (w .sig-size) bytes t
-
-      sig-bits : Bits sig′
-      sig-bits = clock-bits net p plan (m .steppable) state vector (silent-bits vector silent) (w .sig-size) bytes t (λ i. omega (arith, silent i)) (w .sig-bits)
-
-      pub starting-takable : s < clocks → clocks ≤ 16416 → (length (net .from) ≡ 1024) × (length (net .to) ≡ 1024) × (length (net .count) ≡ 1024)
-          → Takable (net .from) (net .to) (net .count) lab counts (net .edges) s sig′ words
-      starting-takable h most rows =
+    module _ (ring′ : List ℕ) (holds : Holds net p (s + 1) 0 ring′) (next′ : List ℕ) (until′ : ℕ) (sooner : s < until′) (ahead : Ahead (net .to) lab counts (net .edges) next′ s until′)
+        (next-size : length next′ ≡ 1025) where
+      pub starting-takable : clocks ≤ 16416 → (length (net .from) ≡ 1024) × (length (net .to) ≡ 1024) × (length (net .count) ≡ 1024) × (length (net .start) ≡ 1024)
+          → Takable (net .from) (net .to) (net .count) (net .start) lab counts (net .edges) next′ s ring′ words
+      starting-takable most rows =
           let few = low-edges net lab (m .labelled) in record {
             few = few;
-            rows = (omega (arith, rows .0), omega (arith, rows .1), omega (arith, rows .2), m .count-rows, omega (arith, w .words-size));
-            signals = starting-size;
-            sig-bits = sig-bits;
+            rows = (omega (arith, rows .0), omega (arith, rows .1), omega (arith, rows .2), omega (arith, rows .3), m .count-rows, omega (arith, w .words-size));
+            listed = omega arith;
+            skips = ahead s (omega arith) sooner;
+            ring-size = holds .size;
+            bits = holds .bits;
             soon = omega arith;
             sources = λ e l. omega (arith, from-node net lab (m .labelled) e l, low-nodes net lab (m .labelled));
+            widths = λ e l. edge-width net (m .steppable) e l;
             labels = λ e l. (omega (arith, to-node net lab (m .labelled) e l, m .labelled .rows), m .labelled .small (at (net .to) e) (to-node net lab (m .labelled) e l));
             narrow = m .narrow;
             short = λ e l.
@@ -249,32 +256,27 @@ module _ (net : Netlist) (lab counts base : List ℕ) (k c : ℕ) (m : Moving ne
 
       -- What the edge shows is its new start value.
       shows-new : (e : ℕ) → e < net .edges → 16384 ≤ s + at lab (at (net .to) e)
-          → shownAt (net .from) (net .count) sig′ e ≡ startAt net lab c e (s + at lab (at (net .to) e) - 16384)
+          → shownAt (net .from) (net .count) (net .start) s ring′ e ≡ startAt net lab c e (s + at lab (at (net .to) e) - 16384)
       shows-new e h l =
-          clock-shows net p plan (m .steppable) state vector (silent-bits vector silent) (w .sig-size) bytes t e h
-          ∙ ap (λ x. shown net x (values net x vector) e) (w .goes)
-          ∙ sym (new-shown net (m .sound) (start-fits net (m .steppable .fit)) vector silent (lagsOf lab) c e (s + at lab (at (net .to) e) - 16384) s h
-          (omega (arith, lag-label (at lab (at (net .to) e)))))
+          shown-right net p plan (m .steppable) s ring′ holds e h
+          ∙ sym (new-seen gate (graphOf net) (regsOf net) (lagsOf lab) c e (s + at lab (at (net .to) e) - 16384) s (omega (arith, lag-label (at lab (at (net .to) e)))))
 
-      pub starting-turn : s < clocks → (words′ : List ℕ) → length words′ ≡ length words
-          → Filled (takenAt (net .from) (net .to) (net .count) lab counts s sig′ words) (at words) (net .edges) words′
-          → Starting net lab counts c vector clocks (s + 1) sig′ state′ words′ out′
-      unfolding wordsIn
-      starting-turn h words′ size f = record {
+      pub starting-turn : (words′ : List ℕ) → length words′ ≡ length words
+          → Filled (takenAt (net .from) (net .to) (net .count) (net .start) lab counts s ring′ words) (at words) (net .edges) words′
+          → (cells′ : List ℕ) → length cells′ ≡ length cells → Cells (p .sees) (net .from) (net .count) (net .start) (net .edges) (s + 1) cells′
+          → Starting net lab counts c p clocks (s + 1) ring′ cells′ next′ words′ until′
+      starting-turn words′ size f cells′ rows placed = record {
         low = omega arith;
-        sig-size = starting-size;
-        sig-bits = sig-bits;
-        out-size = ap length (t .puts) ∙ length-sets out 0 (gather (at (net .kind)) (at sig′) 1 (net .nodes)) ∙ w .out-size;
-        state-size =
-            ap length (t .moves) ∙ moved-length (net .from) (net .count) sig′ state (net .edges) (omega (arith, low-edges net lab (m .labelled), w .state-size)) ∙ w .state-size;
-        goes =
-            clock-leaves net p plan (m .steppable) state vector (silent-bits vector silent) (w .sig-size) bytes t
-            ∙ ap (λ x. wordsAfter net x vector) (w .goes) ∙ ap (wordsIn net vector) (sym (add-one s));
+        holds = holds;
+        cells-size = rows ∙ w .cells-size;
+        placed = placed;
+        next-size = next-size;
+        ahead = λ t a b. ahead t (omega arith) b;
         words-size = size ∙ w .words-size;
         found = record {
           rows = λ e l.
               f .rows e l
-              ∙ raise (startAt net lab c e) (at counts e) (s + at lab (at (net .to) e)) (at words e) (shownAt (net .from) (net .count) sig′ e) (w .found .rows e l) (λ a b. shows-new e l a)
+              ∙ raise (startAt net lab c e) (at counts e) (s + at lab (at (net .to) e)) (at words e) (shownAt (net .from) (net .count) (net .start) s ring′ e) (w .found .rows e l) (λ a b. shows-new e l a)
               ∙ ap (λ n. wordOf (startAt net lab c e) (min (at counts e) (n - 16384))) (let z : s + at lab (at (net .to) e) + 1 ≡ s + 1 + at lab (at (net .to) e) = omega arith in z);
           past = λ e l. f .past e l ∙ w .found .past e l;
         };

@@ -1,3 +1,4 @@
--- New start values, and the original stepped with all inputs at 0; found clock by clock.
+-- New start values; the original with all inputs at 0, held in a ring of its last clocks; the values found clock by clock.
 pub mod Quiet
+pub mod Held
 pub mod Found

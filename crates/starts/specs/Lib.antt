@@ -1,2 +1,3 @@
--- The new start values, found clock by clock of the original on zeros.
+-- The values of the last clocks of the original, on zeros; the new start values, found clock by clock.
+pub mod Ring
 pub mod Starts

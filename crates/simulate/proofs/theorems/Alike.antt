@@ -16,7 +16,7 @@ use Rattle.netlist.specs.Net.{graphOf, regsOf}
 use Rattle.netlist.specs.Read.{Reads}
 use Rattle.netlist.proofs.Rows.{joined-same}
 use Rattle.netlist.proofs.theorems.One.{one-reading}
-use Rattle.simulate.specs.Clock.{before, inputs}
+use Rattle.simulate.specs.Clock.{before}
 use Rattle.simulate.specs.Step.{bits}
 use Rattle.simulate.specs.Run.{clocksFrom, clocks, runSays}
 use Rattle.simulate.specs.Theorems.{byteAt, RunsAlike}

@@ -4,8 +4,7 @@ use Prim.Native.Nat.{_-_, _≤_}
 use mathlib.Core.Path.{_≡_, refl, sym, ap, _∙_}
 use mathlib.Core.Bool.{true}
 use borrow.Author.Tests.{not-true, not-false}
-use Rattle.netlist.specs.Net.{graphOf}
-use Rattle.netlist.proofs.Fits.{head-fits, edge-fits}
+use Rattle.netlist.proofs.Fits.{head-fits}
 use Rattle.simulate.specs.Step.{wordsFit}
 use Rattle.simulate.proofs.Asked.{fits-more, fits-stop}
 use native.Mathlib.Omega.{arith}

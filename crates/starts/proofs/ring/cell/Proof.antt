@@ -1,0 +1,44 @@
+-- `starts::ring::cell` meets its contract.
+-- Assumes nothing.
+use mathlib.Core.Path.{sym}
+use borrow.Author.Needs.{needs}
+use Rattle.starts.proofs.Held.{cell-early, cell-late}
+use Rattle.starts.proofs.ring.cell.Statement.{statement}
+use Rattle.starts.proofs.ring.cell.Tie as tie
+
+cast-result : tie.Need-cast-result
+cast-result c = search needs
+
+shr-result : tie.Need-shr-result
+shr-result c = search needs
+
+cast-result-2 : tie.Need-cast-result-2
+cast-result-2 c = search needs
+
+add-result : tie.Need-add-result
+add-result c = search needs
+
+returns : tie.Need-returns
+returns c = let a = c .before .args in sym (cell-early (a .u) (a .w) (a .word) (a .s) (c .if1 .taken))
+
+mul-result : tie.Need-mul-result
+mul-result c = search needs
+
+add-result-2 : tie.Need-add-result-2
+add-result-2 c = search needs
+
+returns-2 : tie.Need-returns-2
+returns-2 c = let a = c .before .args in sym (cell-late (a .u) (a .w) (a .word) (a .s) (c .if1 .left))
+
+pub cell-spec : {M : Type 1} → statement M
+cell-spec =
+    tie.close
+    (tie.spec
+    cast-result
+    shr-result
+    cast-result-2
+    add-result
+    returns
+    mul-result
+    add-result-2
+    returns-2)
