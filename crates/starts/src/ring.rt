@@ -1,6 +1,6 @@
 // The original on zeros, clock by clock, in a ring of 64 rows: node v's value at clock t stands at t % 64 · 512 + v. Behind the rows, at 32,768, stand 0 and 1.
 // So no register is moved: an edge with w registers shows what its source had w clocks before, or a start value.
-// Private to the crate: `starts` comes here with the plan of a netlist that passed the rules.
+// Private to the crate: `starts_of` comes here with the plan of a netlist that passed the rules.
 ghost use mathlib.Core.Path.{_≡_};
 ghost use Prim.Native.Nat.{ℕ, _+_, _/_, _%_, _^_, _<_, _≤_};
 ghost use lib.ListN.{length};
