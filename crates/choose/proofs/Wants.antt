@@ -12,9 +12,8 @@ use mathlib.Core.List.{List}
 use lib.ListN.{length, set}
 use lib.Seq.{getD-set-same, getD-set-other}
 use borrow.Author.Tests.{eq-eqb, ne-eqb}
-use Rattle.graph.specs.Columns.{at}
+use Rattle.graph.specs.Columns.{at, bit}
 use Rattle.netlist.specs.declared.Netlist.{Netlist}
-use Rattle.netlist.specs.Net.{bit}
 use Rattle.choose.specs.Wants.{mergeOf, Fits, Celled, EdgeWants, Wants}
 
 -- ── Two wants of one cell ───────────────────────────────────────────────────────────────────

@@ -11,9 +11,8 @@ use mathlib.Core.Logic.{_⊎_, _↔_}
 use mathlib.Core.List.{List}
 use Prim.Native.Nat.{ℕ, _+_, _*_, _<_, _≤_}
 use lib.Dec.{eqb}
-use Rattle.graph.specs.Columns.{at}
+use Rattle.graph.specs.Columns.{at, bit}
 use Rattle.netlist.specs.declared.Netlist.{Netlist}
-use Rattle.netlist.specs.Net.{bit}
 
 unfoldable pub mergeOf : ℕ → ℕ → ℕ
 mergeOf m b = cond (eqb m 2) b (cond (eqb m b) b 3)

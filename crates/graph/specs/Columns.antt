@@ -1,5 +1,6 @@
 -- A graph in columns: for each node its gate kind, for each edge the node it leaves and the node it enters.
 --   at xs i             the i-th of xs, 0 past its end
+--   bit word k          bit k of a word, bit 0 the lowest
 --   graph               the theory's graph of the columns
 --   reverse G           every edge turned round
 --   fan-in G v          how many edges enter v
@@ -10,7 +11,7 @@
 use mathlib.Core.Path.{_≡_}
 use mathlib.Core.Bool.{Bool, true, false}
 use mathlib.Core.List.{List}
-use Prim.Native.Nat.{ℕ, _<_, _≤_}
+use Prim.Native.Nat.{ℕ, _/_, _%_, _^_, _<_, _≤_}
 use lib.ListN.{length, getD}
 use Rattle.theory.specs.Graph.{Graph}
 use Rattle.theory.specs.Walk.{Walk}
@@ -18,6 +19,9 @@ use Rattle.theory.specs.Clock.{gather}
 
 abbrev pub at : List ℕ → ℕ → ℕ
 at xs i = getD xs i 0
+
+abbrev pub bit : ℕ → ℕ → ℕ
+bit word k = word / 2 ^ k % 2
 
 abbrev pub graph : ℕ → ℕ → List ℕ → List ℕ → List ℕ → Graph
 graph nodes edges kind from to = record { nodes = nodes; edges = edges; kind = at kind; src = at from; dst = at to }

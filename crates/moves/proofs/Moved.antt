@@ -17,7 +17,8 @@ use Rattle.theory.specs.Gate.{gate}
 use Rattle.theory.specs.Retimer.{Sound}
 use Rattle.netlist.specs.declared.Netlist.{Netlist}
 use Rattle.netlist.specs.Answer.{value}
-use Rattle.netlist.specs.Net.{bit, graphOf, regsOf}
+use Rattle.graph.specs.Columns.{bit}
+use Rattle.netlist.specs.Net.{graphOf, regsOf}
 use Rattle.rules.specs.Rules.{edgeFits}
 use Rattle.netlist.specs.Read.{sound, Reads, judged}
 use Rattle.netlist.specs.Write.{textOf}

@@ -11,7 +11,7 @@ use mathlib.Core.Path.{_≡_, refl, sym, ap, ap₂, _∙_}
 use lib.Arith.{digits-lt}
 use lib.Pow.{pow-pos, pow-add, high}
 use Rattle.theory.specs.Move.{sum}
-use Rattle.netlist.specs.Net.{bit}
+use Rattle.graph.specs.Columns.{bit}
 use Rattle.moves.specs.Moved.{wordOf}
 
 pub sum-same : (f g : ℕ → ℕ) (n : ℕ) → ((i : ℕ) → i < n → f i ≡ g i) → sum f n ≡ sum g n

@@ -3,11 +3,11 @@
 --   graphOf, regsOf, delayOf                  the theory's graph and registers, and the working delays
 -- Assumes nothing.
 use mathlib.Core.List.{List}
-use Prim.Native.Nat.{ℕ, _+_, _*_, _^_, _/_, _%_}
+use Prim.Native.Nat.{ℕ, _+_, _*_, _/_}
 use lib.ListN.{getD, set, replicate}
 use Rattle.theory.specs.Graph.{Graph}
 use Rattle.theory.specs.Clock.{Regs}
-use Rattle.graph.specs.Columns.{graph}
+use Rattle.graph.specs.Columns.{bit, graph}
 use Rattle.netlist.specs.declared.Netlist.{Netlist}
 
 -- Shut, so that no goal shows 512 rows.
@@ -59,10 +59,6 @@ withEdge net e u v w s = record {
   count = set (net .count) e w;
   start = set (net .start) e s;
 }
-
--- Bit k of a word.
-abbrev pub bit : ℕ → ℕ → ℕ
-bit word k = word / 2 ^ k % 2
 
 abbrev pub graphOf : Netlist → Graph
 graphOf net = graph (net .nodes) (net .edges) (net .kind) (net .from) (net .to)

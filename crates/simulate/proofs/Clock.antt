@@ -33,7 +33,8 @@ use Rattle.theory.proofs.clocks.Value.{value-trace}
 use Rattle.theory.proofs.clocks.Step.{shows-first, clock-values}
 use Rattle.theory.proofs.clocks.Gate.{gate-bit}
 use Rattle.netlist.specs.declared.Netlist.{Netlist}
-use Rattle.netlist.specs.Net.{bit, graphOf, regsOf}
+use Rattle.graph.specs.Columns.{bit}
+use Rattle.netlist.specs.Net.{graphOf, regsOf}
 use Rattle.netlist.specs.Theorems.{Fit}
 use Rattle.netlist.proofs.Rows.{below-more}
 use Rattle.netlist.proofs.Fits.{both, edge-fits}

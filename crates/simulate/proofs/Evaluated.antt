@@ -21,9 +21,9 @@ use Rattle.theory.specs.Graph.{Wired}
 use Rattle.theory.specs.Clock.{gather, only}
 use Rattle.theory.specs.Gate.{ones as total, gate, gateBy}
 use Rattle.theory.proofs.clocks.Seen.{gather-same}
-use Rattle.graph.specs.Columns.{at, fan-in}
+use Rattle.graph.specs.Columns.{at, fan-in, bit}
 use Rattle.netlist.specs.declared.Netlist.{Netlist}
-use Rattle.netlist.specs.Net.{bit, graphOf}
+use Rattle.netlist.specs.Net.{graphOf}
 use Rattle.rules.specs.Rules.{ruleOf}
 use Rattle.netlist.proofs.Fits.{head-fits}
 use Rattle.netlist.proofs.Run.{fit-wired}

@@ -16,10 +16,10 @@ use lib.Dec.{ltb}
 use lib.ListN.{length}
 use Rattle.theory.specs.Walk.{Walk, one, more, registers, steps, Loop}
 use Rattle.theory.specs.Gate.{gateBy}
-use Rattle.graph.specs.Columns.{at, graph, fan-in}
+use Rattle.graph.specs.Columns.{at, graph, fan-in, bit}
 use Rattle.graph.specs.Sort.{Sorts, Ordered}
 use Rattle.netlist.specs.declared.Netlist.{Netlist}
-use Rattle.netlist.specs.Net.{bit, graphOf}
+use Rattle.netlist.specs.Net.{graphOf}
 use Rattle.rules.specs.Rules.{ruleOf}
 use Rattle.netlist.specs.Read.{FanIn}
 use Rattle.netlist.specs.Read.{All}

@@ -22,8 +22,7 @@ use lib.Seq.{getD-set-same, getD-set-other, set-out, drop-cons, set-at, getD-dro
 use Rattle.frame.proofs.Laws.{sets-sets}
 use Rattle.theory.specs.Clock.{gather}
 use Rattle.theory.specs.Gate.{ones as total}
-use Rattle.graph.specs.Columns.{at}
-use Rattle.netlist.specs.Net.{bit}
+use Rattle.graph.specs.Columns.{at, bit}
 use Rattle.netlist.specs.Write.{joined}
 use Rattle.simulate.specs.Clock.{moved-on}
 use Rattle.simulate.specs.Signals.{Bits, seen, signalOf, evaluated, Shown, among, Entered, moved, movedOn}

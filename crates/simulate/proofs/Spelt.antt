@@ -13,7 +13,7 @@ use native.Mathlib.Decide.{ℕ-discrete}
 use mathlib.Core.Path.{_≡_, sym, subst, ap, _∙_}
 use lib.Arith.{digits-lt}
 use lib.Pow.{pow-pos, pow-add, shl-exact, high}
-use Rattle.netlist.specs.Net.{bit}
+use Rattle.graph.specs.Columns.{bit}
 
 -- The bit was put d + 1 bits above bit j: an even number of times 2 ^ j.
 put-low : (low x d j : ℕ) → bit (low + x * 2 ^ (suc d + j)) j ≡ bit low j

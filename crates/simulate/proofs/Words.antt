@@ -11,7 +11,7 @@ use mathlib.Core.Path.{_≡_, refl, sym, ap, _∙_, subst}
 use borrow.Author.Tests.{ne-eqb}
 use lib.Arith.{digits-lt}
 use lib.Pow.{pow-pos, pow-add, shr-lt, shr-shr, high}
-use Rattle.netlist.specs.Net.{bit}
+use Rattle.graph.specs.Columns.{bit}
 use Rattle.simulate.specs.Clock.{moved-on}
 
 pub moved-some : (w k word x : ℕ) → suc k ≡ w → moved-on w word x ≡ word / 2 + x * 2 ^ k

@@ -16,7 +16,8 @@ use Rattle.theory.specs.Clock.{gather}
 use Rattle.theory.specs.Step.{oneClock}
 use Rattle.theory.specs.Gate.{gate}
 use Rattle.netlist.specs.declared.Netlist.{Netlist}
-use Rattle.netlist.specs.Net.{bit, graphOf, regsOf}
+use Rattle.graph.specs.Columns.{bit}
+use Rattle.netlist.specs.Net.{graphOf, regsOf}
 use Rattle.netlist.specs.Write.{joined}
 
 -- How many nodes below v have the gate kind k.

@@ -8,9 +8,8 @@ use mathlib.Core.Path.{_≡_}
 use mathlib.Core.List.{List}
 use Prim.Native.Nat.{ℕ, suc, _-_, _<_, _≤_}
 use Rattle.theory.specs.Gate.{gateBy}
-use Rattle.graph.specs.Columns.{at}
+use Rattle.graph.specs.Columns.{at, bit}
 use Rattle.graph.specs.Sort.{Stands}
-use Rattle.netlist.specs.Net.{bit}
 
 abbrev pub Truth : ℕ → ℕ → ℕ → Type 0
 Truth kind n word = (k : ℕ) → k ≤ n → bit word k ≡ gateBy kind n k

@@ -13,9 +13,9 @@ use lib.Dec.{eqb}
 use lib.ListN.{take, drop}
 use Rattle.theory.specs.Clock.{gather}
 use Rattle.theory.specs.Gate.{gateBy}
-use Rattle.graph.specs.Columns.{at, fan-in}
+use Rattle.graph.specs.Columns.{at, fan-in, bit}
 use Rattle.netlist.specs.declared.Netlist.{Netlist}
-use Rattle.netlist.specs.Net.{bit, graphOf}
+use Rattle.netlist.specs.Net.{graphOf}
 use Rattle.simulate.specs.declared.plan.Plan.{Plan}
 
 abbrev pub signal : Netlist → ℕ → ℕ

@@ -19,8 +19,7 @@ use lib.ListN.{length, take, drop, set}
 use lib.Seq.{sets}
 use Rattle.theory.specs.Clock.{gather}
 use Rattle.theory.specs.Gate.{ones as total}
-use Rattle.graph.specs.Columns.{at}
-use Rattle.netlist.specs.Net.{bit}
+use Rattle.graph.specs.Columns.{at, bit}
 use Rattle.netlist.specs.Write.{joined}
 use Rattle.simulate.specs.Clock.{moved-on}
 

@@ -30,9 +30,9 @@ use Rattle.theory.specs.Move.{quiet}
 use Rattle.theory.proofs.clocks.Gate.{gate-bit}
 use Rattle.theory.proofs.clocks.Seen.{seen-early, seen-late, gather-same}
 use Rattle.theory.proofs.clocks.Value.{value-trace}
-use Rattle.graph.specs.Columns.{at, fan-in}
+use Rattle.graph.specs.Columns.{at, fan-in, bit}
 use Rattle.netlist.specs.declared.Netlist.{Netlist}
-use Rattle.netlist.specs.Net.{bit, zeros, graphOf, regsOf}
+use Rattle.netlist.specs.Net.{zeros, graphOf, regsOf}
 use Rattle.netlist.proofs.Fits.{edge-fits}
 use Rattle.netlist.proofs.Rows.{zeros-at}
 use Rattle.netlist.proofs.Run.{fit-wired, fit-rows}

@@ -14,8 +14,7 @@ use mathlib.Core.List.{List}
 use Prim.Native.Nat.{ℕ, zero, suc, _+_, _*_, _-_, _%_, _<_, _≤_}
 use lib.Dec.{ltb}
 use lib.ListN.{length, set}
-use Rattle.graph.specs.Columns.{at}
-use Rattle.netlist.specs.Net.{bit}
+use Rattle.graph.specs.Columns.{at, bit}
 use Rattle.simulate.specs.Signals.{Bits, signalOf, Placed}
 
 abbrev pub row : ℕ → ℕ

@@ -23,7 +23,8 @@ use Rattle.theory.proofs.clocks.Trace.{same-regs-refl, unique}
 use Rattle.theory.proofs.clocks.Value.{value-trace}
 use Rattle.theory.proofs.clocks.Step.{steps-trace}
 use Rattle.netlist.specs.declared.Netlist.{Netlist}
-use Rattle.netlist.specs.Net.{bit, graphOf, regsOf}
+use Rattle.graph.specs.Columns.{bit}
+use Rattle.netlist.specs.Net.{graphOf, regsOf}
 use Rattle.netlist.specs.Write.{joined}
 use Rattle.netlist.proofs.Rows.{joined-same}
 use Rattle.netlist.proofs.theorems.Lines.{lines-fact}

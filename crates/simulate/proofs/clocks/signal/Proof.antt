@@ -5,7 +5,7 @@ use mathlib.Core.Path.{ap, _∙_}
 use native.Mathlib.Numerals.{add-one}
 use lib.ListN.{getD}
 use lib.Count.{ones-le}
-use Rattle.netlist.specs.Net.{bit}
+use Rattle.graph.specs.Columns.{bit}
 use Rattle.simulate.specs.Signals.{seen}
 use native.Mathlib.Omega.{arith}
 use borrow.Author.Needs.{needs}
