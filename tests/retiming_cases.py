@@ -684,6 +684,26 @@ def large(rng: Random) -> Iterator[Case]:
     yield case(ring(rng, 500, {e: 10 for e in range(0, 500, 100)}, 10))
 
 
+def long_texts(rng: Random) -> Iterator[Case]:
+    """The longest text that reads, and longer ones up to what a frame `00` can announce: only the first 32,768 bytes are looked at.
+
+    Surplus bytes after the last line are line 1,538; a fault before them comes first."""
+    net = thinned(rng, largest(rng), (1,))
+    whole = text_of(replace(net, period=longest_chain(net)))
+    assert len(whole) == 25105
+    lines = whole.split(b"\n")
+    faults = [
+        (whole, Refusal(1, LINE, 1538)),
+        (whole[:-9] + b"F" * 8 + b"\n", Refusal(4, LINE, 1537)),
+        (b"\n".join(lines[:599] + [lines[599].replace(b"0", b"O")] + lines[600:]), Refusal(1, LINE, 600)),
+    ]
+    yield Case(whole)
+    for size in (25106, 32767, 32768, 32769, 40000, 65535):
+        for text, refusal in faults[: 1 if size in (32767, 32768) else None]:
+            surplus = text + b"03000000010000000000\n" * 2000
+            yield Case(surplus[:size], refusal)
+
+
 def retiming_cases(seed: int) -> dict[str, list[Case]]:
     """All cases by class; the same for the same seed, whatever the machine."""
     quota = {"8": 12, "9": 4, "10": 4, "11": 30, "a choice with both values": 30, "lags of both signs": 20,
@@ -704,6 +724,7 @@ def retiming_cases(seed: int) -> dict[str, list[Case]]:
         "random": list(random_nets(Random(seed + 11), 200)),
         "random, picked": list(picked(Random(seed + 12), quota)),
         "large netlists": list(large(Random(seed + 13))),
+        "long texts": list(long_texts(Random(seed + 14))),
     }
 
 

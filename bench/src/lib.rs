@@ -1,4 +1,5 @@
-//! The calls of the proved static library `exports` (crates/exports), behind safe functions, and a reference to compare them with.
+//! The calls of the proved static library `retimer` (crates/retimer, include/retimer.h), behind safe functions, and a reference to
+//! compare them with.
 //!
 //! A slice passes as a pointer and then a length. An answer comes as one number: n itself where nothing is refused, else
 //! 2^63 + number * 2^32 + place kind * 2^16 + place.
@@ -10,8 +11,18 @@ pub mod retiming;
 use reference::{Answer, Edge, Netlist, Node, Place, Refusal};
 
 unsafe extern "C" {
-    fn exports_reread(text: *const u8, text_len: usize, out: *mut u8, out_len: usize) -> u64;
-    fn exports_run(
+    fn retimer_read(text: *const u8, text_len: usize, net: *mut Record) -> u64;
+    fn retimer_check(net: *const Record) -> u64;
+    fn retimer_write(net: *const Record, out: *mut u8, out_len: usize) -> u64;
+    fn retimer_step(
+        net: *const Record,
+        machine: *mut Machine,
+        vector: *const u8,
+        vector_len: usize,
+        out: *mut u8,
+        out_len: usize,
+    ) -> u64;
+    fn retimer_run(
         text: *const u8,
         text_len: usize,
         vectors: *const u8,
@@ -19,7 +30,7 @@ unsafe extern "C" {
         out: *mut u8,
         out_len: usize,
     ) -> u64;
-    fn exports_retime(
+    fn retimer_retime(
         text: *const u8,
         text_len: usize,
         out: *mut u8,
@@ -27,27 +38,7 @@ unsafe extern "C" {
         lags: *mut i32,
         lags_len: usize,
     ) -> u64;
-    fn exports_read(text: *const u8, text_len: usize, record: *mut u32, record_len: usize) -> u64;
-    fn exports_write(record: *const u32, record_len: usize, out: *mut u8, out_len: usize) -> u64;
-    fn exports_step(
-        record: *const u32,
-        record_len: usize,
-        words: *mut u32,
-        words_len: usize,
-        vector: *const u8,
-        vector_len: usize,
-        out: *mut u8,
-        out_len: usize,
-    ) -> u64;
-    fn exports_step_in_place(
-        record: *const u32,
-        record_len: usize,
-        machine: *mut Machine,
-        vector: *const u8,
-        vector_len: usize,
-        out: *mut u8,
-        out_len: usize,
-    ) -> u64;
+    fn retimer_reread(text: *const u8, text_len: usize, out: *mut u8, out_len: usize) -> u64;
 }
 
 /// The answer that a number stands for; no other number is one.
@@ -69,19 +60,19 @@ fn answer(code: u64) -> Answer<usize> {
 
 /// A text read and written again.
 pub fn reread(text: &[u8], out: &mut [u8]) -> Answer<usize> {
-    answer(unsafe { exports_reread(text.as_ptr(), text.len(), out.as_mut_ptr(), out.len()) })
+    answer(unsafe { retimer_reread(text.as_ptr(), text.len(), out.as_mut_ptr(), out.len()) })
 }
 
 pub fn run(text: &[u8], vectors: &[u8], out: &mut [u8]) -> Answer<usize> {
     answer(unsafe {
-        exports_run(text.as_ptr(), text.len(), vectors.as_ptr(), vectors.len(), out.as_mut_ptr(), out.len())
+        retimer_run(text.as_ptr(), text.len(), vectors.as_ptr(), vectors.len(), out.as_mut_ptr(), out.len())
     })
 }
 
 /// A text retimed: the new text, each node's lag, and how many start values were chosen.
 pub fn retime(text: &[u8], out: &mut [u8], lags: &mut [i32]) -> Answer<usize> {
     answer(unsafe {
-        exports_retime(text.as_ptr(), text.len(), out.as_mut_ptr(), out.len(), lags.as_mut_ptr(), lags.len())
+        retimer_retime(text.as_ptr(), text.len(), out.as_mut_ptr(), out.len(), lags.as_mut_ptr(), lags.len())
     })
 }
 
@@ -89,91 +80,76 @@ pub fn retime(text: &[u8], out: &mut [u8], lags: &mut [i32]) -> Answer<usize> {
 
 pub const NODES: usize = 512;
 pub const EDGES: usize = 1024;
-pub const RECORD: usize = 4 + 2 * NODES + 4 * EDGES;
 
-/// A netlist record as one list of numbers: period, derate, N, E; then its columns in whole, each after the other:
-/// kind, delay (512 each), from, to, count, start (1,024 each).
+/// The netlist record, laid out as in include/retimer.h.
+#[repr(C)]
 #[derive(Clone, PartialEq, Eq)]
-pub struct Record(pub Vec<u32>);
+pub struct Record {
+    pub period: u16,
+    pub derate: u8,
+    pub nodes: u16,
+    pub edges: u16,
+    pub kind: [u8; NODES],
+    pub delay: [u8; NODES],
+    pub from: [u16; EDGES],
+    pub to: [u16; EDGES],
+    pub count: [u8; EDGES],
+    pub start: [u32; EDGES],
+}
 
 impl Record {
-    pub const KIND: usize = 4;
-    pub const DELAY: usize = Self::KIND + NODES;
-    pub const FROM: usize = Self::DELAY + NODES;
-    pub const TO: usize = Self::FROM + EDGES;
-    pub const COUNT: usize = Self::TO + EDGES;
-    pub const START: usize = Self::COUNT + EDGES;
+    /// A record with no node and no edge: all numbers are 0.
+    pub fn empty() -> Self {
+        Record {
+            period: 0,
+            derate: 0,
+            nodes: 0,
+            edges: 0,
+            kind: [0; NODES],
+            delay: [0; NODES],
+            from: [0; EDGES],
+            to: [0; EDGES],
+            count: [0; EDGES],
+            start: [0; EDGES],
+        }
+    }
 
     /// The record of a netlist of at most 512 nodes and 1,024 edges; rows past them are 0.
     pub fn of(net: &Netlist) -> Self {
-        let mut row = vec![0; RECORD];
-        row[..4].copy_from_slice(&[
-            u32::from(net.period),
-            u32::from(net.derate),
-            net.nodes.len() as u32,
-            net.edges.len() as u32,
-        ]);
-        for (i, &Node { kind, delay }) in net.nodes.iter().enumerate() {
-            row[Self::KIND + i] = u32::from(kind);
-            row[Self::DELAY + i] = u32::from(delay);
+        let mut record = Self::empty();
+        (record.period, record.derate) = (net.period, net.derate);
+        (record.nodes, record.edges) = (net.nodes.len() as u16, net.edges.len() as u16);
+        for (v, &Node { kind, delay }) in net.nodes.iter().enumerate() {
+            (record.kind[v], record.delay[v]) = (kind, delay);
         }
-        for (i, &Edge { from, to, count, start }) in net.edges.iter().enumerate() {
-            row[Self::FROM + i] = u32::from(from);
-            row[Self::TO + i] = u32::from(to);
-            row[Self::COUNT + i] = u32::from(count);
-            row[Self::START + i] = start;
+        for (e, &Edge { from, to, count, start }) in net.edges.iter().enumerate() {
+            (record.from[e], record.to[e]) = (from, to);
+            (record.count[e], record.start[e]) = (count, start);
         }
-        Record(row)
+        record
     }
 }
 
-/// Reads a text into a record, whatever is refused: then the record is all 0.
-pub fn read(text: &[u8]) -> (Answer<usize>, Record) {
-    let mut record = Record(vec![u32::MAX; RECORD]);
-    let code = unsafe { exports_read(text.as_ptr(), text.len(), record.0.as_mut_ptr(), RECORD) };
-    (answer(code), record)
+/// The machine record: one word per edge.
+#[repr(C)]
+#[derive(Clone, PartialEq, Eq)]
+pub struct Machine {
+    pub words: [u32; EDGES],
+}
+
+pub fn read(text: &[u8], record: &mut Record) -> Answer<usize> {
+    answer(unsafe { retimer_read(text.as_ptr(), text.len(), record) })
+}
+
+pub fn check(record: &Record) -> Answer<usize> {
+    answer(unsafe { retimer_check(record) })
 }
 
 pub fn write(record: &Record, out: &mut [u8]) -> Answer<usize> {
-    answer(unsafe { exports_write(record.0.as_ptr(), RECORD, out.as_mut_ptr(), out.len()) })
+    answer(unsafe { retimer_write(record, out.as_mut_ptr(), out.len()) })
 }
 
-/// One clock on a machine's words, 1,024 of them, by the call that takes and gives the machine by value.
-pub fn step(record: &Record, words: &mut [u32; EDGES], vector: &[u8], out: &mut [u8]) -> Answer<usize> {
-    answer(unsafe {
-        exports_step(
-            record.0.as_ptr(),
-            RECORD,
-            words.as_mut_ptr(),
-            EDGES,
-            vector.as_ptr(),
-            vector.len(),
-            out.as_mut_ptr(),
-            out.len(),
-        )
-    })
-}
-
-/// The machine record, laid out as Rattle's.
-#[repr(C)]
-struct Machine {
-    words: [u32; EDGES],
-}
-
-/// The same by the call that takes the machine by `&mut`.
-pub fn step_in_place(record: &Record, words: &mut [u32; EDGES], vector: &[u8], out: &mut [u8]) -> Answer<usize> {
-    let mut machine = Machine { words: *words };
-    let code = unsafe {
-        exports_step_in_place(
-            record.0.as_ptr(),
-            RECORD,
-            &mut machine,
-            vector.as_ptr(),
-            vector.len(),
-            out.as_mut_ptr(),
-            out.len(),
-        )
-    };
-    *words = machine.words;
-    answer(code)
+/// One clock.
+pub fn step(record: &Record, machine: &mut Machine, vector: &[u8], out: &mut [u8]) -> Answer<usize> {
+    answer(unsafe { retimer_step(record, machine, vector.as_ptr(), vector.len(), out.as_mut_ptr(), out.len()) })
 }

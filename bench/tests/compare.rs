@@ -6,7 +6,7 @@ use bench::generate::{
     slowest_accepted, slowest_infeasible, text_of, thinned, trunk, Random,
 };
 use bench::reference::{self, Answer, Netlist, INPUT, OUTPUT};
-use bench::{retiming, Record, EDGES, NODES, RECORD};
+use bench::{retiming, Machine, Record, EDGES, NODES};
 
 fn pins(net: &Netlist, kind: u8) -> usize {
     net.nodes.iter().filter(|node| node.kind == kind).count()
@@ -94,12 +94,14 @@ fn reading_and_writing() {
         assert!(out == rust_out);
         seen.count(&given);
 
-        let (given, record) = bench::read(&text);
+        // a refusal leaves the record as it was
+        let mut record = Record::empty();
+        fill_past(&mut rng, &mut record);
         let (rust, rust_record) = match reference::read(&text) {
             Ok(net) => (Ok(0), Record::of(&net)),
-            Err(refusal) => (Err(refusal), Record(vec![0; RECORD])),
+            Err(refusal) => (Err(refusal), record.clone()),
         };
-        assert_eq!(given, rust);
+        assert_eq!(bench::read(&text, &mut record), rust);
         assert!(record == rust_record);
     }
     seen.show("reading and writing", &[0, 1, 2, 3, 4, 5, 6, 7, 12]);
@@ -117,6 +119,18 @@ fn texts_of_every_length() {
     }
 }
 
+/// Puts any numbers in the rows past the record's nodes and edges.
+fn fill_past(rng: &mut Random, record: &mut Record) {
+    let (n, e) = (usize::from(record.nodes), usize::from(record.edges));
+    for v in n..NODES {
+        (record.kind[v], record.delay[v]) = (rng.draw() as u8, rng.draw() as u8);
+    }
+    for e in e..EDGES {
+        (record.from[e], record.to[e]) = (rng.draw() as u16, rng.draw() as u16);
+        (record.count[e], record.start[e]) = (rng.draw() as u8, rng.draw() as u32);
+    }
+}
+
 /// A record with any netlist in it, and any numbers in the rows past it.
 fn any_record(rng: &mut Random) -> (Netlist, Record) {
     let mut net = if rng.one_in(60) { largest(rng, 1) } else { any_sound(rng) };
@@ -124,23 +138,11 @@ fn any_record(rng: &mut Random) -> (Netlist, Record) {
         damage_netlist(rng, &mut net);
     }
     let mut record = Record::of(&net);
-    let (n, e) = (net.nodes.len(), net.edges.len());
-    for (column, used, size, limit) in [
-        (Record::KIND, n, 512, 1 << 8),
-        (Record::DELAY, n, 512, 1 << 8),
-        (Record::FROM, e, EDGES, 1 << 16),
-        (Record::TO, e, EDGES, 1 << 16),
-        (Record::COUNT, e, EDGES, 1 << 8),
-        (Record::START, e, EDGES, 1u64 << 32),
-    ] {
-        for i in used..size {
-            record.0[column + i] = (rng.draw() % limit) as u32;
-        }
-    }
+    fill_past(rng, &mut record);
     if rng.one_in(20) {
         // a head whose numbers no text's lines could keep: 2
         let (n, e) = rng.pick(&[(0, 1), (1, 1), (513, 1), (65535, 1), (2, 0), (2, 1025), (512, 65535), (0, 0)]);
-        (record.0[2], record.0[3]) = (n as u32, e as u32);
+        (record.nodes, record.edges) = (n as u16, e as u16);
         net.nodes.resize(n, net.nodes[0]);
         net.edges.resize(e, net.edges[0]);
     }
@@ -160,6 +162,7 @@ fn writing_records() {
         assert_eq!(given, reference::write(&net, &mut rust_out));
         assert!(out == rust_out);
         seen.count(&given);
+        assert_eq!(bench::check(&record), net.check().map(|_| 0));
     }
     seen.show("writing records", &[0, 2, 3, 4, 5, 6, 7, 12]);
 }
@@ -198,9 +201,8 @@ fn any_words(rng: &mut Random, net: &Netlist) -> [u32; EDGES] {
     words
 }
 
-type Step = fn(&Record, &mut [u32; EDGES], &[u8], &mut [u8]) -> Answer<usize>;
-
-fn stepping(name: &str, step: Step) {
+#[test]
+fn stepping() {
     let mut rng = Random::new(4);
     let mut seen = Seen::default();
     for _ in 0..6000 {
@@ -209,25 +211,15 @@ fn stepping(name: &str, step: Step) {
         let room = room(&mut rng, pins(&net, OUTPUT));
         let mut out = filled(&mut rng, room);
         let mut rust_out = out.clone();
-        let mut words = any_words(&mut rng, &net);
-        let mut rust_words = words;
-        let given = step(&record, &mut words, &vector, &mut out);
+        let mut machine = Machine { words: any_words(&mut rng, &net) };
+        let mut rust_words = machine.words;
+        let given = bench::step(&record, &mut machine, &vector, &mut out);
         assert_eq!(given, reference::step(&net, &mut rust_words, &vector, &mut rust_out));
-        assert!(words == rust_words);
+        assert!(machine.words == rust_words);
         assert!(out == rust_out);
         seen.count(&given);
     }
-    seen.show(name, &[0, 2, 3, 4, 5, 6, 7, 12, 13]);
-}
-
-#[test]
-fn stepping_by_value() {
-    stepping("stepping", bench::step);
-}
-
-#[test]
-fn stepping_in_place() {
-    stepping("stepping in place", bench::step_in_place);
+    seen.show("stepping", &[0, 2, 3, 4, 5, 6, 7, 12, 13]);
 }
 
 #[test]
@@ -276,13 +268,10 @@ fn running_is_stepping() {
         let vectors = rng.bits(clocks * inputs);
         let mut out = vec![9; clocks * outputs];
         assert_eq!(bench::run(&text, &vectors, &mut out), Ok(clocks * outputs));
-        let mut words = [0; EDGES];
-        for (word, edge) in words.iter_mut().zip(&net.edges) {
-            *word = edge.start;
-        }
+        let mut machine = Machine { words: record.start };
         for (vector, row) in vectors.chunks(inputs).zip(out.chunks(outputs)) {
             let mut once = vec![9; outputs];
-            assert_eq!(bench::step(&record, &mut words, vector, &mut once), Ok(outputs));
+            assert_eq!(bench::step(&record, &mut machine, vector, &mut once), Ok(outputs));
             assert!(once == row);
         }
     }

@@ -1,5 +1,5 @@
 -- The columns that the functions of `cells` leave are the program of the moved netlist.
---   celled              the numbered cells, as what is wanted of them asks for
+--   celled              the numbered cells, as what is due of them asks for
 --   compiled            specs/Cells' `Compiled`
 -- Assumes nothing.
 use Prim.Native.Nat.{ℕ, zero, suc, _+_, _*_, _-_, _/_, _%_, _≤_, _<_}
@@ -20,25 +20,20 @@ use Rattle.graph.specs.Sort.{group, sorted, Sorts}
 use Rattle.graph.proofs.Sorted.{sorted-part}
 use Rattle.netlist.specs.declared.Netlist.{Netlist}
 use Rattle.netlist.proofs.Run.{fit-wired}
-use Rattle.solve.specs.Program.{operandsOf}
+use Rattle.search.specs.Program.{operandsOf}
 use Rattle.choose.specs.Cells.{source, Compiled}
 use Rattle.moves.specs.Labels.{lagsOf, Labelled, Counts, Bases}
 use Rattle.choose.specs.Numbers.{lagAt, Arranged, Numbered}
 use Rattle.choose.specs.Sources.{sourceAt, widthAt, Operands}
-use Rattle.choose.specs.Wants.{Celled, Wants}
-use Rattle.moves.proofs.Labels.{low-nodes, sum-more, sum-grows}
+use Rattle.choose.specs.Dues.{cellAt, Celled, Dues}
+use Rattle.moves.proofs.Labels.{sum-more, sum-grows}
 use Rattle.choose.proofs.Compiles.{gather-map}
 use Rattle.choose.proofs.Enters.{all-edges, ins-at, width}
 
-pub celled : (lag : ℕ → ℕ) (order : List ℕ) (nodes cells : ℕ) (id code : List ℕ) → nodes ≤ 512 → ((v : ℕ) → v < nodes → lag v ≤ 24)
-    → Numbered lag order nodes 24 0 cells id code → Celled lag nodes cells id code
-celled lag order nodes cells id code few low n = record {
-  few = omega (arith, n .few);
-  nodes-few = few;
-  low = low;
-  inside = λ v t hv ht. n .inside v t hv ht (inl (let z : t < 24 = omega (arith, low v hv) in z));
-  back = λ v t hv ht. n .back v t hv ht (inl (let z : t < 24 = omega (arith, low v hv) in z));
-}
+pub celled : (lag : ℕ → ℕ) (order : List ℕ) (nodes cells : ℕ) (id code : List ℕ) → ((v : ℕ) → v < nodes → lag v ≤ 24)
+    → Numbered lag order nodes 24 0 cells id code → Celled lag nodes cells id
+celled lag order nodes cells id code low n =
+    record { rows = n .id-rows; low = low; inside = λ v t hv ht. n .inside v t hv ht (inl (let z : t < 24 = omega (arith, low v hv) in z)) }
 
 part-map : (f : ℕ → ℕ) (xs ys : List ℕ) (n a b : ℕ) → a + n ≤ length ys → b + n ≤ length xs → ((k : ℕ) → k < n → at ys (a + k) ≡ f (at xs (b + k)))
     → take n (drop a ys) ≡ map f (take n (drop b xs))
@@ -52,26 +47,30 @@ part-map f xs ys (suc n) a b h l w =
     subst₂-zero : at ys (a + 0) ≡ f (at xs (b + 0)) → at ys a ≡ f (at xs b)
     subst₂-zero q = ap (at ys) (let z : a ≡ a + 0 = omega arith in z) ∙ q ∙ ap (λ i. f (at xs i)) (let z : b + 0 ≡ b = omega arith in z)
 
-module _ (net : Netlist) (lab counts base order id code old ins begin kind first operand want : List ℕ) (cells : ℕ) (s : Labelled net lab)
+module _ (net : Netlist) (lab counts base order id code old ins begin kind first operand due : List ℕ) (cells total : ℕ) (s : Labelled net lab)
     (c : Counts net lab counts) (b : Bases net lab base) (o : Arranged order (net .nodes)) (low : (v : ℕ) → v < net .nodes → lagAt lab v ≤ 24)
     (n : Numbered (lagAt lab) order (net .nodes) 24 0 cells id code)
     (room : net .edges ≤ length old) (st : Sorts (net .to) (net .edges) (net .nodes) old ins begin)
     (ks : (i : ℕ) → i < cells → at kind i ≡ at (net .kind) (at code i / 32))
     (os : Operands (net .from) ins begin counts base id code cells first operand) (rows : sum (widthAt begin code) cells ≤ length operand)
-    (ws : Wants net (lagAt lab) id want (net .edges)) where
+    (ds : Dues net (lagAt lab) (cellAt id) due total) where
   cell : ℕ → ℕ → ℕ
-  cell v t = at id (v * 32 + t)
+  cell = cellAt id
 
-  okay : Celled (lagAt lab) (net .nodes) cells id code
-  okay = celled (lagAt lab) order (net .nodes) cells id code (low-nodes net lab s) low n
+  okay : Celled (lagAt lab) (net .nodes) cells id
+  okay = celled (lagAt lab) order (net .nodes) cells id code low n
+
+  back : (v t : ℕ) → v < net .nodes → t < lagAt lab v → at code (cell v t) ≡ v * 32 + t
+  unfolding cell
+  back v t hv ht = n .back v t hv ht (inl (let z : t < 24 = omega (arith, low v hv) in z))
 
   node-of : (v t : ℕ) → v < net .nodes → t < lagAt lab v → at code (cell v t) / 32 ≡ v
   unfolding cell
-  node-of v t hv ht = omega (arith, okay .back v t hv ht, low v hv)
+  node-of v t hv ht = omega (arith, back v t hv ht, low v hv)
 
   clock-of : (v t : ℕ) → v < net .nodes → t < lagAt lab v → at code (cell v t) % 32 ≡ t
   unfolding cell
-  clock-of v t hv ht = omega (arith, okay .back v t hv ht, low v hv)
+  clock-of v t hv ht = omega (arith, back v t hv ht, low v hv)
 
   source-is : (t e : ℕ) → e < net .edges → sourceAt (net .from) counts base id t e ≡ source net (lagsOf lab) cell t e
   unfolding sourceAt cell
@@ -106,14 +105,11 @@ module _ (net : Netlist) (lab counts base order id code old ins begin kind first
       ∙ gather-map f (at (net .to)) (λ e. e) v (net .edges)
       ∙ gather-same (at (net .to)) f (source net (lagsOf lab) cell t) v (net .edges) (λ e h q. source-is t e h)
 
-  pub compiled : Compiled net (lagsOf lab) cells kind first operand want (λ v t. at id (v * 32 + t))
+  pub compiled : Compiled net (lagsOf lab) cells kind first operand due total (cellAt id)
   unfolding cell
   compiled = record {
     inside = okay .inside;
-    every = λ i h.
-        let k = n .each i h in
-        (at order (k .place), k .clock, o .nodes-only (k .place) (k .within), k .below, k .number);
     kinds = λ v t hv ht. ks (cell v t) (okay .inside v t hv ht) ∙ ap (at (net .kind)) (node-of v t hv ht);
     operands = shown;
-    wants = ws .wants;
+    dues = ds;
   }

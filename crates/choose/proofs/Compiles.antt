@@ -1,43 +1,53 @@
 -- The program that stands for a moved netlist's search (specs/Cells): its cells have the values that the nodes have below their lags, so a search through the program is one through the choices.
+--   gather-hit, gather-miss    one edge further: it enters the node or not
 --   gather-map, gather-at      a list made of what is gathered; a place in it
 --   after, given        the moved netlist's registers, and its values with all inputs at 0
 --   source-before       the cells that are a cell's operands stand before it
 --   edge-shows          the operand that stands for an edge shows what the edge shows
 --   cell-value          the cell of node v at clock t has v's value at t in the moved netlist
---   compiled-holds      the cells give what is wanted exactly where the choice carries the start
---   solved-best, solved-none    so the program's answer is retiming's
+--   compiled-holds      the cells give what is due exactly where the choice carries the start
+--   solved              so the program's answer is retiming's
 -- Assumes nothing.
-use Prim.Native.Nat.{ℕ, zero, suc, _+_, _^_, _<_, _≤_}
+use Prim.Native.Nat.{ℕ, zero, suc, _+_, _^_, _/_, _%_, _<_, _≤_}
 use native.Mathlib.Omega.{arith}
 use native.Mathlib.Decide.{ℕ-discrete}
 use mathlib.Core.Path.{_≡_, refl, sym, ap, ap₂, _∙_, subst}
-use mathlib.Core.Bool.{true, false}
-use mathlib.Core.Logic.{⊎-elim, _⊎_, _↔_}
-use mathlib.Core.List.{List, [], _∷_, _++_, map, map-append}
-use borrow.Author.Tests.{lt-ltb, le-ltb}
+use mathlib.Core.Bool.{Bool, true, false}
+use mathlib.Core.Logic.{⊎-elim, _↔_}
+use mathlib.Core.List.{List, [], _∷_, _++_, map, map-append, append-nil}
+use borrow.Author.Tests.{lt-ltb, le-ltb, eq-eqb, ne-eqb}
 use lib.IntN.{ℤ}
 use lib.ListN.{length, length-append, List·getD-append}
 use lib.Seq.{getD-at}
-use Rattle.theory.specs.Clock.{Regs, seen, gather, sees, value}
+use Rattle.theory.specs.Clock.{Regs, seen, only, gather, sees, value}
 use Rattle.theory.specs.Lag.{up, down, newCount, Legal}
-use Rattle.theory.specs.Move.{Moved, move, quiet, Carried, sum, chosenOn, chosenIn, digit, choiceOf, Best}
+use Rattle.theory.specs.Move.{Moved, move, quiet, Carried, sum, chosenOn, chosenIn, digit, choiceOf}
 use Rattle.theory.specs.Gate.{gate}
-use Rattle.theory.specs.Retimer.{Sound, NoStart, retimed}
+use Rattle.theory.specs.Retimer.{Sound, retimed}
 use Rattle.theory.proofs.numbers.Whole.{no-down}
 use Rattle.theory.proofs.numbers.Sums.{sum-within}
 use Rattle.theory.proofs.clocks.Seen.{seen-is, gather-same}
 use Rattle.theory.proofs.clocks.Trace.{clock-induction}
 use Rattle.theory.proofs.moves.Retime.{new-moved, new-no-loop, new-trace}
 use Rattle.theory.proofs.moves.Choose.{choice-number}
-use Rattle.graph.specs.Columns.{at}
+use Rattle.graph.specs.Columns.{at, bit}
 use Rattle.netlist.specs.declared.Netlist.{Netlist}
 use Rattle.netlist.specs.Net.{graphOf, regsOf}
-use Rattle.simulate.proofs.Lists.{gather-hit, gather-miss}
-use Rattle.solve.specs.Program.{look, valuesTo, valueAt, Program, Holds, Solves}
+use Rattle.search.specs.Program.{look, valuesTo, valueAt, Program, Holds, Solves}
 use Rattle.choose.specs.Cells.{source, Compiled}
-use Rattle.choose.proofs.Programs.{look-bit, look-cell, values-at, value-gate, value-bit, operand-at}
+use Rattle.choose.specs.Wires.{Chooses, Standing}
+use Rattle.choose.proofs.Programs.{look-bit, look-cell, values-at, value-gate, operand-at}
 
 -- ── What is gathered ────────────────────────────────────────────────────────────────────────
+
+module _ (dst f : ℕ → ℕ) (v n : ℕ) where
+  gather-hit : dst n ≡ v → gather dst f v (suc n) ≡ gather dst f v n ++ (f n ∷ [])
+  unfolding gather only
+  gather-hit q = rw (eq-eqb (dst n) v q)
+
+  gather-miss : ¬ (dst n ≡ v) → gather dst f v (suc n) ≡ gather dst f v n
+  unfolding gather only
+  gather-miss q = rw (ne-eqb (dst n) v q) (append-nil (gather dst f v n))
 
 pub gather-map : (g dst f : ℕ → ℕ) (v n : ℕ) → map g (gather dst f v n) ≡ gather dst (λ e. g (f e)) v n
 unfolding gather
@@ -85,8 +95,8 @@ abbrev pub given : Netlist → (ℕ → ℤ) → ℕ → ℕ → ℕ → ℕ
 given net r c = value gate (graphOf net) (after net r c) quiet
 
 module _ (net : Netlist) (ok : Sound gate (graphOf net) (regsOf net)) (r : ℕ → ℤ) (legal : Legal (graphOf net) (regsOf net .count) r)
-    {cells k : ℕ} {kind first operand want : List ℕ} {cell : ℕ → ℕ → ℕ} (made : Compiled net r cells kind first operand want cell)
-    (size : k ≡ chosenIn (graphOf net) (regsOf net .count) r) (right : Program cells k kind first operand want) where
+    {cells k total : ℕ} {kind first operand due : List ℕ} {cell : ℕ → ℕ → ℕ} (made : Compiled net r cells kind first operand due total cell)
+    (size : k ≡ chosenIn (graphOf net) (regsOf net .count) r) (right : Program cells k kind first operand) where
   moved : (c : ℕ) → Moved (graphOf net) (regsOf net) (after net r c) r (choiceOf (graphOf net) (regsOf net .count) r c) (value gate (graphOf net) (regsOf net) quiet)
   moved c = new-moved gate (graphOf net) (ok .wired) (regsOf net) (ok .no-loop) r legal (choiceOf (graphOf net) (regsOf net .count) r c)
 
@@ -171,40 +181,43 @@ module _ (net : Netlist) (ok : Sound gate (graphOf net) (regsOf net)) (r : ℕ �
           ∙ sym (new-trace gate (graphOf net) (ok .wired) (regsOf net) (ok .no-loop) r legal choice quiet .at-gate v t hv
           (λ z. absurd (let y : ⊥ = omega (arith, ap up (legal .pinned v hv (omega arith))) in y)))
 
-  -- ── The program's answer ──────────────────────────────────────────────────────────────────
+  -- ── What is due ───────────────────────────────────────────────────────────────────────────
 
-  -- A cell's value is a bit, so `wants` says what is wanted of it: that the node gives each start value that it has to give at that clock.
-  -- Every clock at which a node has to give one lies below its lag, so it has a cell; and every cell is some node's.
-  pub compiled-holds : (c : ℕ) → Holds cells k kind first operand want c ↔ Carried gate (graphOf net) (regsOf net) r (choiceOf (graphOf net) (regsOf net .count) r c)
+  -- The due of an old value asks of its cell what carrying the start asks of its node. Each old value that is to be carried has its due, and each due is one's.
+  pub compiled-holds : (c : ℕ) → Holds k kind first operand due total c ↔ Carried gate (graphOf net) (regsOf net) r (choiceOf (graphOf net) (regsOf net .count) r c)
   compiled-holds c = (forth, back)
     where
-      x : ℕ → ℕ → ℕ
-      x v t = valueAt kind first operand k c (cell v t)
-
-      forth : Holds cells k kind first operand want c → Carried gate (graphOf net) (regsOf net) r (choiceOf (graphOf net) (regsOf net .count) r c)
+      forth : Holds k kind first operand due total c → Carried gate (graphOf net) (regsOf net) r (choiceOf (graphOf net) (regsOf net .count) r c)
       forth holds e s t he hs p =
           let v = graphOf net .src e in
-          let hv = ok .wired .src-in e he in
-          let ht : t < up (r v) = omega arith in
-          sym (cell-value c v t hv ht)
-          ∙ made .wants v t (x v t) hv ht (value-bit kind first operand k c (cell v t)) .0 (holds (cell v t) (made .inside v t hv ht)) e s he refl hs p
+          let d = made .dues .complete e s t (record { edge = he; old = hs; clock = p }) in
+          let i : at due (d .place) / 2 ≡ cell v t = omega (arith, d .holds) in
+          let x : at due (d .place) % 2 ≡ bit (at (net .start) e) s = omega (arith, d .holds) in
+          sym (cell-value c v t (ok .wired .src-in e he) (omega arith))
+          ∙ ap (valueAt kind first operand k c) (sym i) ∙ sym (holds (d .place) (d .within)) ∙ x
 
-      back : Carried gate (graphOf net) (regsOf net) r (choiceOf (graphOf net) (regsOf net .count) r c) → Holds cells k kind first operand want c
-      back carried i h =
-          let (v, t, hv, ht, q) = made .every i h in
-          subst (λ j. (at want j ≡ 2) ⊎ (at want j ≡ valueAt kind first operand k c j)) q
-          (made .wants v t (x v t) hv ht (value-bit kind first operand k c (cell v t)) .1
-          (λ e s he d hs p. cell-value c v t hv ht ∙ ap (λ u. given net r c u t) (sym d) ∙ carried e s t he hs (omega (arith, ap (λ u. up (r u)) d))))
+      back : Carried gate (graphOf net) (regsOf net) r (choiceOf (graphOf net) (regsOf net .count) r c) → Holds k kind first operand due total c
+      back carried x h =
+          let d = made .dues .sound x h in
+          let q = d .carry in
+          let v = graphOf net .src (d .edge) in
+          let i : at due x / 2 ≡ cell v (d .clock) = omega (arith, d .is) in
+          let y : at due x % 2 ≡ bit (at (net .start) (d .edge)) (d .old) = omega (arith, d .is) in
+          y ∙ sym (carried (d .edge) (d .old) (d .clock) (q .edge) (q .old) (q .clock))
+          ∙ sym (cell-value c v (d .clock) (ok .wired .src-in (d .edge) (q .edge)) (omega (arith, q .old, q .clock))) ∙ ap (valueAt kind first operand k c) (sym i)
 
-  pub solved-best : (c : ℕ) → Solves cells k kind first operand want true c → Best gate (graphOf net) (regsOf net) r c
-  solved-best c s = record {
-    small = subst (λ n. c < 2 ^ n) size (s .0);
-    carried = compiled-holds c .0 (s .1);
-    first = λ d h carried. s .2 d h (compiled-holds d .1 carried);
-  }
+-- ── The program's answer ────────────────────────────────────────────────────────────────────
 
+module _ (net : Netlist) (ok : Sound gate (graphOf net) (regsOf net)) (r : ℕ → ℤ) (legal : Legal (graphOf net) (regsOf net .count) r)
+    {k cells : ℕ} {kind first operand due begin : List ℕ} (size : k ≡ chosenIn (graphOf net) (regsOf net .count) r)
+    (s : Standing net r k cells kind first operand due begin) where
   -- A choice of bits is, where it is looked at, a number below 2 ^ k (`choice-number`).
-  pub solved-none : (c : ℕ) → Solves cells k kind first operand want false c → NoStart gate (graphOf net) (regsOf net) r
-  solved-none c s choice bits carried =
+  pub solved : (found : Bool) (c : ℕ) → Solves k kind first operand due (at begin (net .edges)) found c → Chooses net r found c
+  solved true c a = record {
+    small = subst (λ n. c < 2 ^ n) size (a .0);
+    carried = s .holds c .0 (a .1);
+    first = λ d h carried. a .2 d h (s .holds d .1 carried);
+  }
+  solved false c a = λ choice bits carried.
       let n = choice-number gate (graphOf net) (ok .wired) (regsOf net) (ok .no-loop) r legal choice (λ e t he ht. bits e t) carried in
-      s (n .0) (subst (λ m. n .0 < 2 ^ m) (sym size) (n .1)) (compiled-holds (n .0) .1 (n .2))
+      a (n .0) (subst (λ m. n .0 < 2 ^ m) (sym size) (n .1)) (s .holds (n .0) .1 (n .2))

@@ -12,7 +12,7 @@ use lib.ListN.{length, take, drop, length-append}
 use Rattle.graph.specs.Columns.{at}
 use Rattle.graph.specs.Sort.{group, sorted, Sorts}
 use Rattle.graph.proofs.Sorted.{group-item, sorted-part, sorted-place, sorted-room, sorted-length, sets-at}
-use Rattle.solve.specs.Program.{operandsOf}
+use Rattle.search.specs.Program.{operandsOf}
 use Rattle.choose.proofs.Programs.{operand-at}
 
 module _ (to : List ℕ) (edges nodes : ℕ) (old ins begin : List ℕ) (inside : (e : ℕ) → e < edges → at to e < nodes)

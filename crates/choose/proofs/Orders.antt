@@ -2,9 +2,8 @@
 --   loop-kinds          gate kinds make no loop
 --   moved-no-loop       the moved netlist has no loop without a register
 --   ordered-counts      an order depends on which counts are 0
---   low-count           no edge has more than 32 registers
 -- Assumes nothing.
-use Prim.Native.Nat.{ℕ, suc, _+_, _≤_, _<_}
+use Prim.Native.Nat.{ℕ, suc, _+_, _<_}
 use native.Mathlib.Omega.{arith}
 use mathlib.Core.Path.{_≡_, refl, sym, ap, _∙_}
 use mathlib.Core.List.{List}
@@ -16,7 +15,6 @@ use Rattle.graph.specs.Columns.{at, graph}
 use Rattle.graph.specs.Sort.{Ordered}
 use Rattle.netlist.specs.declared.Netlist.{Netlist}
 use Rattle.netlist.specs.Net.{graphOf, regsOf}
-use Rattle.netlist.proofs.Fits.{edge-fits}
 use Rattle.moves.specs.Labels.{lagsOf, Labelled, Counts}
 use Rattle.moves.proofs.Lags.{registers-alike}
 
@@ -49,7 +47,3 @@ ordered-counts nodes edges from to bytes counts order same o = record {
   every-node = o .every-node;
   sources-first = λ p e hp he q z. o .sources-first p e hp he q (same e he ∙ z);
 }
-
-pub low-count : (net : Netlist) (lab : List ℕ) → Labelled net lab → (e : ℕ) → e < net .edges → at (net .count) e ≤ 32
-low-count net lab s e h =
-    edge-fits (net .nodes) (graphOf net .kind) (at (net .from) e) (at (net .to) e) (at (net .count) e) (at (net .start) e) (s .fit .edge e h) .2

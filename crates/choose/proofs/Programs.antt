@@ -1,11 +1,10 @@
--- Values of a program's cells (crate solve), by what their operands show.
+-- Values of a program's cells (crate search), by what their operands show.
 --   look-bit, look-cell        an operand shows a chosen bit or a cell's value
 --   values-length, values-at   the first n values are n, and do not change when more cells follow
 --   value-gate                 a cell's value is its gate's, over what its operands show
---   value-bit                  it is 0 or 1
 --   operand-at                 an operand stands in its cell's rows
 -- Assumes nothing.
-use Prim.Native.Nat.{ℕ, zero, suc, _+_, _-_, _<_, _≤_, min}
+use Prim.Native.Nat.{ℕ, zero, suc, _+_, _-_, _<_, min}
 use native.Mathlib.Omega.{arith}
 use native.Mathlib.Decide.{ℕ-discrete}
 use mathlib.Core.Path.{_≡_, refl, sym, ap, _∙_}
@@ -15,9 +14,8 @@ use lib.ListN.{length, take, drop, length-append, length-take, List·getD-append
 use lib.Seq.{getD-at, getD-take, getD-drop}
 use Rattle.theory.specs.Gate.{gate}
 use Rattle.theory.specs.Move.{digit}
-use Rattle.theory.proofs.clocks.Gate.{gate-bit}
 use Rattle.graph.specs.Columns.{at}
-use Rattle.solve.specs.Program.{look, operandsOf, valuesTo, valueAt}
+use Rattle.search.specs.Program.{look, operandsOf, valuesTo, valueAt}
 
 module _ (k c : ℕ) (vals : List ℕ) where
   pub look-bit : (x : ℕ) → x < 32 → look k c vals x ≡ digit k c x
@@ -47,9 +45,6 @@ module _ (kind first operand : List ℕ) (k c : ℕ) where
   pub value-gate : (i : ℕ) → valueAt kind first operand k c i ≡ gate (at kind i) (map (look k c (valuesTo kind first operand k c i)) (operandsOf first operand i))
   unfolding valuesTo
   value-gate i = getD-at (valuesTo kind first operand k c i) _ [] 0 i (values-length i)
-
-  pub value-bit : (i : ℕ) → valueAt kind first operand k c i ≤ 1
-  value-bit i = omega (arith, value-gate i, gate-bit (at kind i) (map (look k c (valuesTo kind first operand k c i)) (operandsOf first operand i)))
 
 pub operand-at : (first operand : List ℕ) (i p : ℕ) → p < length (operandsOf first operand i)
     → (at first i + p < at first (suc i)) × (at operand (at first i + p) ≡ at (operandsOf first operand i) p)

@@ -1,16 +1,18 @@
 -- The cells put together: what `choose` asks of its parts, and that they are a right program.
 --   size, low-lag       how many values are chosen; no lag is above 24
---   arranged, okay      the order has each node once; the cells are numbered
+--   Placed              the nodes stand in evaluation order, and the cells are numbered along it
+--   arranged, okay-all  the order has each node once; each node has its cells: what `number_cells` and `dues_of` ask for
 --   ready, wirable      every cell's operands can be read: what `operands_of` and `wire` ask for
---   right               the columns are a right program: what `solve` asks for
---   chooses             what `solve` says is retiming's
+--   standing            the columns are a right program, and what is due of it is what has to be carried: what `solve` asks for
+--   stands, chooses     what `compile` leaves, over k bits; what `solve` says of it is retiming's
+--   chosen-none         where nothing is chosen, nothing is to be carried
 -- Assumes nothing.
 use Prim.Native.Nat.{ℕ, suc, _+_, _*_, _-_, _/_, _%_, _≤_, _<_}
 use native.Mathlib.Omega.{arith}
 use native.Mathlib.Numerals.{add-one}
 use native.Mathlib.Decide.{ℕ-discrete, decLt}
 use mathlib.Core.Path.{_≡_, sym, subst, ap, _∙_}
-use mathlib.Core.Bool.{Bool, true, false}
+use mathlib.Core.Bool.{Bool, true}
 use mathlib.Core.Logic.{_⊎_, inl, inr}
 use mathlib.Core.List.{List}
 use borrow.Author.Tests.{lt-ltb, le-ltb}
@@ -26,23 +28,29 @@ use Rattle.graph.proofs.Sorted.{sorted-room}
 use Rattle.netlist.specs.declared.Netlist.{Netlist}
 use Rattle.netlist.specs.Net.{graphOf, regsOf}
 use Rattle.netlist.proofs.Run.{fit-wired}
-use Rattle.simulate.proofs.Plans.{kind-low, fan-low}
-use Rattle.solve.specs.Program.{Program, Solves}
+use Rattle.search.specs.Program.{Program, Owes, Solves}
 use Rattle.choose.specs.Cells.{Compiled}
 use Rattle.moves.specs.Labels.{lagsOf, chosenAt}
 use Rattle.choose.specs.Numbers.{lagAt, Arranged, Before, Numbered}
 use Rattle.choose.specs.Sources.{sourceAt, Shows, widthAt, Ready, Operands}
-use Rattle.choose.specs.Wants.{Celled, Wants}
+use Rattle.choose.specs.Dues.{cellAt, Celled, Dues}
 use Rattle.moves.specs.Moving.{Moving}
-use Rattle.choose.specs.Wires.{Chooses, Entering, Wirable}
+use Rattle.choose.specs.Wires.{Chooses, Entering, Wirable, Standing}
 use Rattle.moves.proofs.Labels.{from-node, low-nodes, low-edges, sum-more, sum-grows}
+use Rattle.choose.proofs.Rules.{kind-low, fan-low}
 use Rattle.choose.proofs.Numbers.{ordered-arranged}
+use Rattle.choose.proofs.Owing.{owes-cells}
 use Rattle.choose.proofs.Columns.{celled, compiled}
-use Rattle.choose.proofs.Compiles.{solved-best, solved-none}
+use Rattle.choose.proofs.Compiles.{compiled-holds, solved}
 use Rattle.choose.proofs.Enters.{width, entered}
 use Rattle.choose.proofs.Widths.{few-operands}
 
-module _ (net : Netlist) (lab counts base : List ℕ) (k : ℕ) (m : Moving net lab counts base k) where
+pub record Placed (net : Netlist) (lab counts order id code : List ℕ) (cells : ℕ) : Type 0 where
+  pub rows : net .nodes ≤ length order
+  pub ordered : Ordered (net .nodes) (net .edges) (net .from) (net .to) counts order
+  pub numbered : Numbered (lagAt lab) order (net .nodes) 24 0 cells id code
+
+module _ {net : Netlist} {lab counts base : List ℕ} {k : ℕ} (m : Moving net lab counts base k) where
   pub size : k ≡ chosenIn (graphOf net) (regsOf net .count) (lagsOf lab)
   size = m .chosen ∙ m .based (net .edges) (omega arith)
 
@@ -64,13 +72,24 @@ module _ (net : Netlist) (lab counts base : List ℕ) (k : ℕ) (m : Moving net 
   base-low : (e : ℕ) → e < net .edges → at base e ≤ k
   base-low e h = omega (arith, m .based e (omega arith), size, sum-grows (chosenAt net lab) e (net .edges) (omega arith))
 
-  pub arranged : (order : List ℕ) → net .nodes ≤ length order → Ordered (net .nodes) (net .edges) (net .from) (net .to) counts order → Arranged order (net .nodes)
-  arranged order rows o = ordered-arranged (net .nodes) (net .edges) (net .from) (net .to) counts order (low-nodes net lab (m .labelled)) rows o
+  pub arranged : {order : List ℕ} → net .nodes ≤ length order → Ordered (net .nodes) (net .edges) (net .from) (net .to) counts order → Arranged order (net .nodes)
+  arranged rows o = ordered-arranged (net .nodes) (net .edges) (net .from) (net .to) counts _ (low-nodes net lab (m .labelled)) rows o
 
-  module _ (order id code : List ℕ) (cells : ℕ) (rows : net .nodes ≤ length order)
-      (o : Ordered (net .nodes) (net .edges) (net .from) (net .to) counts order) (n : Numbered (lagAt lab) order (net .nodes) 24 0 cells id code) where
-    pub okay : Celled (lagAt lab) (net .nodes) cells id code
-    okay = celled (lagAt lab) order (net .nodes) cells id code (low-nodes net lab (m .labelled)) low-lag n
+  module _ {order id code : List ℕ} {cells : ℕ} (placed : Placed net lab counts order id code cells) where
+    abbrev o : Ordered (net .nodes) (net .edges) (net .from) (net .to) counts order
+    o = placed .ordered
+
+    abbrev n : Numbered (lagAt lab) order (net .nodes) 24 0 cells id code
+    n = placed .numbered
+
+    okay : Celled (lagAt lab) (net .nodes) cells id
+    okay = celled (lagAt lab) order (net .nodes) cells id code low-lag n
+
+    pub few-cells : cells ≤ 12288
+    few-cells = omega (arith, n .few)
+
+    pub okay-all : Celled (lagAt lab) (net .nodes) 12288 id
+    okay-all = record { rows = okay .rows; low = okay .low; inside = λ v t hv ht. omega (arith, okay .inside v t hv ht, few-cells) }
 
     node-of : (i : ℕ) (h : i < cells) → at code i / 32 ≡ at order (n .each i h .place)
     node-of i h = let c = n .each i h in omega (arith, c .coded, c .below, low-lag (at order (c .place)) (o .nodes-only (c .place) (c .within)))
@@ -97,7 +116,7 @@ module _ (net : Netlist) (lab counts base : List ℕ) (k : ℕ) (m : Moving net 
             inr ((let y : at code i % 32 - at counts e ≡ n .each i h .clock = omega (arith, clock-of i h) in y), o .sources-first (n .each i h .place) e (n .each i h .within) he (q ∙ node-of i h) z)
         go (no z) = inl (let y : at code i % 32 - at counts e < n .each i h .clock = omega (arith, clock-of i h) in y)
 
-    module _ (from-rows : net .edges ≤ length (net .from)) (ins begin : List ℕ) (g : Entering net ins begin) where
+    module _ (from-rows : net .edges ≤ length (net .from)) {ins begin : List ℕ} (g : Entering net ins begin) where
       places : (v : ℕ) → v < net .nodes → (at begin v ≤ at begin (v + 1)) × (at begin (v + 1) ≤ net .edges) × (at begin (v + 1) - at begin v ≡ length (group (net .to) v (net .edges)))
       places = width (net .to) (net .edges) (net .nodes) (g .old) ins begin (fit-wired net (m .labelled .fit) .dst-in) (g .room) (g .sorts)
 
@@ -118,18 +137,19 @@ module _ (net : Netlist) (lab counts base : List ℕ) (k : ℕ) (m : Moving net 
             count-row = omega (arith, m .count-rows);
             base-row = omega (arith, m .base-rows);
             low = omega (arith, base-low e he, m .few);
-            node = omega (arith, okay .nodes-few, from-node net lab (m .labelled) e he);
-            cell = λ l. omega (arith, source-earlier i e h he q l, okay .few);
+            node = omega (arith, low-nodes net lab (m .labelled), from-node net lab (m .labelled) e he);
+            cell = λ l. omega (arith, source-earlier i e h he q l, few-cells);
           }
 
       pub few-places : sum (widthAt begin code) cells ≤ 24576
       few-places =
-          few-operands (lagAt lab) order begin id code (net .nodes) (net .edges) cells (arranged order rows o) low-lag (low-edges net lab (m .labelled)) n
+          few-operands (lagAt lab) order begin id code (net .nodes) (net .edges) cells (arranged (placed .rows) o) low-lag (low-edges net lab (m .labelled)) n
           (λ v h. places v h .0) (omega (arith, g .sorts .begins (net .nodes) (omega arith), sorted-room (net .to) (net .edges) (net .nodes)))
 
-      module _ (kind first operand want : List ℕ) (ks : (i : ℕ) → i < cells → at kind i ≡ at (net .kind) (at code i / 32))
-          (os : Operands (net .from) ins begin counts base id code cells first operand) (ws : Wants net (lagAt lab) id want (net .edges))
-          (kind-rows : length kind ≡ 12288) (first-rows : length first ≡ 12289) (operand-rows : length operand ≡ 24576) (want-rows : length want ≡ 12288) where
+      module _ (kind : List ℕ) {first operand due starts : List ℕ} (ks : (i : ℕ) → i < cells → at kind i ≡ at (net .kind) (at code i / 32))
+          (os : Operands (net .from) ins begin counts base id code cells first operand) (owes : Owes 12288 due starts (net .edges))
+          (ds : Dues net (lagAt lab) (cellAt id) due (at starts (net .edges)))
+          (kind-rows : length kind ≡ 12288) (first-rows : length first ≡ 12289) (operand-rows : length operand ≡ 24576) where
         -- Where the operands of cell i begin and end.
         begins : (i : ℕ) → i < cells → (at first i ≡ sum (widthAt begin code) i) × (at first (suc i) ≡ sum (widthAt begin code) i + widthAt begin code i)
         begins i h = (os .begins i (omega arith), ap (at first) (sym (add-one i)) ∙ os .begins (i + 1) (omega arith) ∙ sum-more (widthAt begin code) i)
@@ -155,13 +175,12 @@ module _ (net : Netlist) (lab counts base : List ℕ) (k : ℕ) (m : Moving net 
                 let y = source-earlier i e h he q (omega arith) in
                 inr ((let x : 32 ≤ at operand j = omega (arith, w) in x), (let x : at operand j < 32 + i = omega (arith, w, y) in x))
 
-        pub right : Program cells k kind first operand want
+        right : Program cells k kind first operand
         right = record {
           few-bits = m .few;
-          few-cells = okay .few;
-          kind-rows = omega (arith, okay .few);
-          first-rows = omega (arith, okay .few);
-          want-rows = omega (arith, okay .few);
+          few-cells = few-cells;
+          kind-rows = omega (arith, few-cells);
+          first-rows = omega (arith, few-cells);
           gates = λ i h. subst (λ x. x < 10) (sym (ks i h)) (kind-low net (m .labelled .fit) (at code i / 32) (node-low i h));
           rising = λ i h. omega (arith, begins i h);
           few-ins = λ i h. omega (arith, begins i h, places (at code i / 32) (node-low i h) .2, fan-low net (m .steppable .fans) (at code i / 32) (node-low i h));
@@ -169,20 +188,41 @@ module _ (net : Netlist) (lab counts base : List ℕ) (k : ℕ) (m : Moving net 
           earlier = earlier;
         }
 
-        made : Compiled net (lagsOf lab) cells kind first operand want (λ v t. at id (v * 32 + t))
+        made : Compiled net (lagsOf lab) cells kind first operand due (at starts (net .edges)) (cellAt id)
         made =
-            compiled net lab counts base order id code (g .old) ins begin kind first operand want cells (m .labelled) (m .counted) (m .based) (arranged order rows o) low-lag n (g .room) (g .sorts) ks os
-            (omega (arith, few-places)) ws
+            compiled net lab counts base order id code (g .old) ins begin kind first operand due cells (at starts (net .edges)) (m .labelled) (m .counted) (m .based) (arranged (placed .rows) o) low-lag n (g .room) (g .sorts) ks os
+            (omega (arith, few-places)) ds
 
-        pub chooses : (found : Bool) (c : ℕ) → Solves cells k kind first operand want found c → Chooses net (lagsOf lab) found c
-        chooses true c = solved-best net (m .sound) (lagsOf lab) (m .labelled .legal) made size right c
-        chooses false c = solved-none net (m .sound) (lagsOf lab) (m .labelled .legal) made size right c
+        pub standing : Standing net (lagsOf lab) k cells kind first operand due starts
+        standing = record {
+          right = right;
+          owes = owes-cells net (lagAt lab) id due starts cells 12288 okay (from-node net lab (m .labelled)) owes ds;
+          holds = compiled-holds net (m .sound) (lagsOf lab) (m .labelled .legal) made size right;
+        }
 
     pub wirable : net .edges ≤ length (net .from) → Wirable net counts base id code cells
     wirable from-rows = record {
       nodes-few = low-nodes net lab (m .labelled);
       edges-few = low-edges net lab (m .labelled);
-      cells-few = okay .few;
-      ready = ready from-rows;
-      room = few-places from-rows;
+      cells-few = few-cells;
+      ready = λ ins begin g. ready from-rows g;
+      room = λ ins begin g. few-places from-rows g;
     }
+
+  -- ── The answer ────────────────────────────────────────────────────────────────────────────
+
+  pub stands : {cells : ℕ} {kind first operand due begin : List ℕ} → Standing net (lagsOf lab) (at base (net .edges)) cells kind first operand due begin
+      → Standing net (lagsOf lab) k cells kind first operand due begin
+  stands s = rw (m .chosen) s
+
+  pub chooses : {cells : ℕ} {kind first operand due begin : List ℕ} → Standing net (lagsOf lab) k cells kind first operand due begin
+      → (found : Bool) (c : ℕ) → Solves k kind first operand due (at begin (net .edges)) found c → Chooses net (lagsOf lab) found c
+  chooses s = solved net (m .sound) (lagsOf lab) (m .labelled .legal) size s
+
+  -- No lag is positive then, so no old value is to be carried.
+  pub chosen-none : k ≡ 0 → Chooses net (lagsOf lab) true 0
+  chosen-none z = record {
+    small = rw (sym size ∙ z) (omega arith);
+    carried = λ e s t he hs p. absurd (let y : ⊥ = omega (arith, size, lag-chosen (graphOf net) (regsOf net .count) (lagsOf lab) (m .labelled .legal) (m .sure .fed) (at (net .from) e) (from-node net lab (m .labelled) e he)) in y);
+    first = λ d h. absurd (let y : ⊥ = omega arith in y);
+  }

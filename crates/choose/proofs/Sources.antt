@@ -3,7 +3,7 @@
 --   appended-none, appended-more    one place further
 --   operands-none, operands-more    one cell further
 -- Assumes nothing.
-use Prim.Native.Nat.{ℕ, _+_, _-_, _/_, _%_, _≤_, _<_}
+use Prim.Native.Nat.{ℕ, _+_, _/_, _%_, _≤_, _<_}
 use native.Mathlib.Omega.{arith}
 use native.Mathlib.Decide.{ℕ-discrete}
 use mathlib.Core.Path.{_≡_, refl, sym, subst, ap, _∙_}
@@ -25,21 +25,21 @@ source-chosen t count a b h = rw (lt-ltb t count h)
 pub source-cell : (t count a b : ℕ) → count ≤ t → b ≡ cond (ltb t count) a b
 source-cell t count a b h = rw (le-ltb t count h)
 
-module _ (f : ℕ → ℕ) (ins : List ℕ) where
-  pub appended-none : (old : List ℕ) (lo start : ℕ) → Appended f ins old old lo lo start
+module _ (f : ℕ → ℕ) where
+  pub appended-none : (old : List ℕ) (lo start : ℕ) → Appended f old old lo lo start
   appended-none old lo start = record { rows = refl; kept = λ j h. refl; added = λ k h. absurd (let z : ⊥ = omega arith in z) }
 
-  pub appended-more : (old new : List ℕ) (lo k start n x : ℕ) → Appended f ins old new lo k start → lo ≤ k → n + lo ≡ start + k → n < length new → x ≡ f (at ins k)
-      → Appended f ins old (set new n x) lo (k + 1) start
+  pub appended-more : (old new : List ℕ) (lo k start n x : ℕ) → Appended f old new lo k start → lo ≤ k → n + lo ≡ start + k → n < length new → x ≡ f k
+      → Appended f old (set new n x) lo (k + 1) start
   appended-more old new lo k start n x s l q h e = record {
     rows = length-set new n x ∙ s .rows;
     kept = λ j m. getD-set-other new n j x 0 (let z : ¬ (j ≡ n) = λ y. omega arith in z) ∙ s .kept j m;
     added = λ i m. go i m (ℕ-discrete (lo + i) k);
   }
     where
-      go : (i : ℕ) → lo + i < k + 1 → Dec (lo + i ≡ k) → at (set new n x) (start + i) ≡ f (at ins (lo + i))
+      go : (i : ℕ) → lo + i < k + 1 → Dec (lo + i ≡ k) → at (set new n x) (start + i) ≡ f (lo + i)
       go i m (yes y) =
-          ap (at (set new n x)) (let z : start + i ≡ n = omega arith in z) ∙ getD-set-same new n x 0 h ∙ e ∙ ap (λ j. f (at ins j)) (sym y)
+          ap (at (set new n x)) (let z : start + i ≡ n = omega arith in z) ∙ getD-set-same new n x 0 h ∙ e ∙ ap f (sym y)
       go i m (no y) = getD-set-other new n (start + i) x 0 (let z : ¬ (start + i ≡ n) = λ w. omega arith in z) ∙ s .added i (omega arith)
 
 module _ (from ins begin counts base id code : List ℕ) where
@@ -50,7 +50,7 @@ module _ (from ins begin counts base id code : List ℕ) where
       → n ≡ sum (widthAt begin code) i → i + 1 < length first
       → at begin (at code i / 32) ≤ at begin (at code i / 32 + 1)
       → m + at begin (at code i / 32) ≡ n + at begin (at code i / 32 + 1)
-      → Appended (sourceAt from counts base id (at code i % 32)) ins operand operand′ (at begin (at code i / 32)) (at begin (at code i / 32 + 1)) n
+      → Appended (λ k. sourceAt from counts base id (at code i % 32) (at ins k)) operand operand′ (at begin (at code i / 32)) (at begin (at code i / 32 + 1)) n
       → (m ≡ sum (widthAt begin code) (i + 1)) × Operands from ins begin counts base id code (i + 1) (set first (i + 1) m) operand′
   operands-more i first operand operand′ n m s q h l e a = (
     next,

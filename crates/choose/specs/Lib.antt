@@ -1,6 +1,6 @@
--- The start values to be found, as a program for the search: cells, their numbers, operands, wanted values; put together.
+-- The start values to be found, as a program for the search: cells, their numbers, operands, what is due of them; put together.
+pub mod Dues
 pub mod Cells
 pub mod Numbers
 pub mod Sources
-pub mod Wants
 pub mod Wires

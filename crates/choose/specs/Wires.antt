@@ -2,22 +2,23 @@
 --   Wirable             what `wire` asks for, whatever the order in which it finds the edges
 --   Wires               the operands stand, by the edges that enter each node
 --   Chooses             the search's answer: the smallest choice that carries the start, or that none does
---   Standing            a right program, and what is found in it is so
+--   Standing            a right program, whose cells give what is due exactly where the choice carries the start
 -- Assumes nothing.
 use mathlib.Core.Path.{_≡_}
 use mathlib.Core.Bool.{Bool, true, false}
+use mathlib.Core.Logic.{_↔_}
 use mathlib.Core.List.{List}
 use Prim.Native.Nat.{ℕ, _<_, _≤_}
 use lib.IntN.{ℤ}
 use lib.ListN.{length}
 use Rattle.theory.specs.Gate.{gate}
-use Rattle.theory.specs.Move.{sum, Best}
+use Rattle.theory.specs.Move.{sum, Carried, choiceOf, Best}
 use Rattle.theory.specs.Retimer.{NoStart}
+use Rattle.graph.specs.Columns.{at}
 use Rattle.graph.specs.Sort.{Sorts}
 use Rattle.netlist.specs.declared.Netlist.{Netlist}
 use Rattle.netlist.specs.Net.{graphOf, regsOf}
-use Rattle.solve.specs.Program.{Program, Solves}
-use Rattle.choose.specs.declared.choosing.Columns.{Columns}
+use Rattle.search.specs.Program.{Program, Owes, Holds}
 use Rattle.choose.specs.Sources.{widthAt, Ready, Operands}
 
 -- The edges by the node that they enter.
@@ -45,6 +46,7 @@ abbrev pub Chooses : Netlist → (ℕ → ℤ) → Bool → ℕ → Type 0
 Chooses net r true c = Best gate (graphOf net) (regsOf net) r c
 Chooses net r false c = NoStart gate (graphOf net) (regsOf net) r
 
-pub record Standing (net : Netlist) (r : ℕ → ℤ) (k : ℕ) (p : Columns) : Type 0 where
-  pub right : Program (p .cells) k (p .kind) (p .first) (p .operand) (p .want)
-  pub chooses : (found : Bool) (c : ℕ) → Solves (p .cells) k (p .kind) (p .first) (p .operand) (p .want) found c → Chooses net r found c
+pub record Standing (net : Netlist) (r : ℕ → ℤ) (k cells : ℕ) (kind first operand due begin : List ℕ) : Type 0 where
+  pub right : Program cells k kind first operand
+  pub owes : Owes cells due begin (net .edges)
+  pub holds : (c : ℕ) → Holds k kind first operand due (at begin (net .edges)) c ↔ Carried gate (graphOf net) (regsOf net) r (choiceOf (graphOf net) (regsOf net .count) r c)

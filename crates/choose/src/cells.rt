@@ -13,7 +13,6 @@ ghost use Rattle.theory.specs.Move.{sum};
 ghost use Rattle.graph.specs.Columns.{at};
 ghost use Rattle.choose.specs.Numbers.{lagAt, Arranged, Numbered};
 ghost use Rattle.choose.specs.Sources.{sourceAt, Shows, Appended, widthAt, Ready, Operands};
-ghost use Rattle.choose.specs.Wants.{mergeOf, Celled, EdgeWants, Wants};
 ghost use Rattle.moves.specs.Labels.{Labelled, Counts};
 ghost use Rattle.theory.specs.Walk.{Loop};
 ghost use Rattle.graph.specs.Sort.{Ordered};
@@ -73,19 +72,17 @@ pub fn number_cells(
 }
 
 // The kinds of the cells: those of their nodes.
-pub fn kinds_of(kind: &[u8], code: &[u16], cells: usize) -> [u8; 12288]
-    requires { ⌜ (cells ≤ 12288) × (cells ≤ length (now code)) ⌝ }
+pub fn put_kinds(kind: &[u8], code: &[u16], cells: usize, kinds: &mut [u8])
+    requires { ⌜ (cells ≤ length (now kinds)) × (cells ≤ length (now code)) ⌝ }
     requires { ⌜ ((i : ℕ) → i < cells → at (now code) i / 32 < length (now kind)) ⌝ }
-    ensures { λ r. ⌜ ((i : ℕ) → i < cells → at r i ≡ at (now (kind .entry)) (at (now (code .entry)) i / 32)) ⌝ }
+    ensures { λ _. ⌜ ((i : ℕ) → i < cells → at (now (kinds .exit)) i ≡ at (now (kind .entry)) (at (now (code .entry)) i / 32)) ⌝ }
 {
-    let mut kinds = [0u8; 12288];
     let mut i = 0;
     while i < cells {
         let v = (code[i] / 32) as usize;
         kinds[i] = kind[v];
         i += 1;
     }
-    kinds
 }
 
 // What an edge shows at clock t: while t is below the new count a chosen value, then a cell of its source.
@@ -118,7 +115,7 @@ fn append_sources(
     requires { ⌜ (lo ≤ hi) × (hi ≤ length (now ins)) × (start + hi ≤ lo + length (now operand)) × (t < 32) × (length (now id) ≡ 16384) ⌝ }
     requires { ⌜ ((k : ℕ) → k < hi → lo ≤ k → Shows (now from) (now counts) (now base) (now id) t (at (now ins) k)) ⌝ }
     ensures { λ r. ⌜ r + lo ≡ start + hi ⌝ }
-    ensures { λ r. ⌜ Appended (sourceAt (now (from .entry)) (now (counts .entry)) (now (base .entry)) (now (id .entry)) t) (now (ins .entry)) (now (operand .entry)) (now (operand .exit)) lo hi start ⌝ }
+    ensures { λ r. ⌜ Appended (λ k. sourceAt (now (from .entry)) (now (counts .entry)) (now (base .entry)) (now (id .entry)) t (at (now (ins .entry)) k)) (now (operand .entry)) (now (operand .exit)) lo hi start ⌝ }
 {
     let mut n = start;
     let mut k = lo;
@@ -163,44 +160,6 @@ pub fn operands_of(
     }
 }
 
-// What is wanted of a cell, with one more wanted value: 2 is nothing, 3 is what nothing satisfies.
-fn merge(wanted: u8, value: u8) -> u8
-    ensures { λ r. ⌜ r ≡ mergeOf wanted value ⌝ }
-{
-    if wanted == 2 {
-        return value;
-    }
-    if wanted == value { value } else { 3 }
-}
-
-// "for each edge leaving a node v with positive lag and each old value s of that edge with s at least w − r(v)": its cell wants that value.
-fn want_edge(
-    from: u16,
-    count: u32,
-    start: u32,
-    label: &[u32],
-    nodes: usize,
-    cells: usize,
-    id: &[u16],
-    code: &[u16],
-    want: &mut [u8],
-)
-    requires { ⌜ Celled (lagAt (now label)) nodes cells (now id) (now code) ⌝ }
-    requires { ⌜ (from < nodes) × (nodes ≤ length (now label)) × (length (now id) ≡ 16384) × (length (now want) ≡ 12288) × (count ≤ 32) ⌝ }
-    ensures { λ _. ⌜ EdgeWants (lagAt (now (label .entry))) nodes (now (id .entry)) from count start count (now (want .entry)) (now (want .exit)) ⌝ }
-{
-    let lag = up_of(label[from as usize]);
-    let mut s = 0;
-    while s < count {
-        if count <= s + lag {
-            let spot = (from as usize) * 32 + ((s + lag - count) as usize);
-            let i = id[spot] as usize;
-            want[i] = merge(want[i], ((start >> s) % 2) as u8);
-        }
-        s += 1;
-    }
-}
-
 // The nodes in evaluation order of the moved netlist.
 pub fn order_of(net: Netlist, lab: &[u32], counts: &[u32]) -> [u16; 512]
     requires { ⌜ Labelled net (now lab) × Counts net (now lab) (now counts) × (net .edges ≤ length (now counts)) ⌝ }
@@ -212,30 +171,4 @@ pub fn order_of(net: Netlist, lab: &[u32], counts: &[u32]) -> [u16; 512]
     let edges = net.edges as usize;
     let bytes = bytes_of(counts, edges);
     by_rank(&net.from, &net.to, &bytes, nodes, edges)
-}
-
-// What all edges want.
-pub fn wants_of(net: Netlist, lab: &[u32], cells: usize, id: &[u16], code: &[u16]) -> [u8; 12288]
-    requires { ⌜ Labelled net (now lab) × Celled (lagAt (now lab)) (net .nodes) cells (now id) (now code) × (length (now id) ≡ 16384) ⌝ }
-    ensures { λ r. ⌜ Wants net (lagAt (now (lab .entry))) (now (id .entry)) r (net .edges) ⌝ }
-{
-    let nodes = net.nodes as usize;
-    let edges = net.edges as usize;
-    let mut want = [2u8; 12288];
-    let mut e = 0;
-    while e < edges {
-        want_edge(
-            net.from[e],
-            net.count[e] as u32,
-            net.start[e],
-            lab,
-            nodes,
-            cells,
-            id,
-            code,
-            &mut want,
-        );
-        e += 1;
-    }
-    want
 }

@@ -1,28 +1,20 @@
 // The choice of start values: the moved netlist's cells as a program, and the search through it.
 // Retiming comes here with the labels of the least retiming.
-use crate::cells::kinds_of;
 use crate::cells::number_cells;
 use crate::cells::operands_of;
 use crate::cells::order_of;
-use crate::cells::wants_of;
+use crate::cells::put_kinds;
+use crate::dues::dues_of;
 use graph::sort_by;
 use netlist::Netlist;
-use solve::Choice;
+use search::Choice;
 use solve::solve;
 ghost use mathlib.Core.Path.{_≡_};
 ghost use lib.ListN.{length};
+ghost use Rattle.graph.specs.Columns.{at};
 ghost use Rattle.moves.specs.Labels.{lagsOf};
 ghost use Rattle.moves.specs.Moving.{Moving};
 ghost use Rattle.choose.specs.Wires.{Chooses, Wirable, Wires, Standing};
-
-// The columns of a program for `solve`.
-pub struct Columns {
-    pub cells: usize,
-    pub kind: [u8; 12288],
-    pub first: [u16; 12289],
-    pub operand: [u16; 24576],
-    pub want: [u8; 12288],
-}
 
 // The operands of the cells: those of a cell are the edges that enter its node, in the order of the edges.
 fn wire(
@@ -58,44 +50,60 @@ fn wire(
     );
 }
 
-// The program of the moved netlist.
-fn compile(net: Netlist, lab: &[u32], counts: &[u32], base: &[u32], k: u32) -> Columns
-    requires { ⌜ Moving net (now lab) (now counts) (now base) k ⌝ }
-    ensures { λ r. ⌜ Standing net (lagsOf (now (lab .entry))) k r ⌝ }
+// The program of the moved netlist, over as many bits as `base` ends with, and what is due of its cells. How many cells there are.
+fn compile(
+    net: Netlist,
+    lab: &[u32],
+    counts: &[u32],
+    base: &[u32],
+    kind: &mut [u8],
+    first: &mut [u16],
+    operand: &mut [u16],
+    due: &mut [u16],
+    begin: &mut [u16],
+) -> usize
+    requires { ⌜ Moving net (now lab) (now counts) (now base) (at (now base) (net .edges)) ⌝ }
+    requires { ⌜ (length (now kind) ≡ 12288) × (length (now first) ≡ 12289) × (length (now operand) ≡ 24576) × (length (now due) ≡ 24576) × (length (now begin) ≡ 1025) ⌝ }
+    ensures { λ r. ⌜ Standing net (lagsOf (now (lab .entry))) (at (now (base .entry)) (net .edges)) r (now (kind .exit)) (now (first .exit)) (now (operand .exit)) (now (due .exit)) (now (begin .exit)) ⌝ }
 {
     let order = order_of(net, lab, counts);
     let mut id = [0u16; 16384];
     let mut code = [0u16; 12288];
     let cells = number_cells(&order, lab, net.nodes as usize, &mut id, &mut code);
-    let kind = kinds_of(&net.kind, &code, cells);
-    let want = wants_of(net, lab, cells, &id, &code);
-    let mut first = [0u16; 12289];
-    let mut operand = [0u16; 24576];
-    wire(
-        net,
-        counts,
-        base,
-        &id,
-        &code,
-        cells,
-        &mut first,
-        &mut operand,
-    );
-    Columns {
-        cells,
-        kind,
-        first,
-        operand,
-        want,
-    }
+    put_kinds(&net.kind, &code, cells, kind);
+    wire(net, counts, base, &id, &code, cells, first, operand);
+    dues_of(net, lab, &order, &id, due, begin);
+    cells
 }
 
 // The smallest choice that carries the start, or that none does.
+// Where nothing is chosen no lag is positive, so nothing is to be carried, and the empty choice is the only one.
 pub fn choose(net: Netlist, lab: &[u32], counts: &[u32], base: &[u32], k: u32) -> Choice
     requires { ⌜ Moving net (now lab) (now counts) (now base) k ⌝ }
     ensures { λ r. ⌜ Chooses net (lagsOf (now (lab .entry))) (r .found) (r .choice) ⌝ }
 {
-    let p = compile(net, lab, counts, base, k);
-    let cells = p.cells;
-    solve(&p.kind, &p.first, &p.operand, &p.want, cells, k)
+    if k == 0 {
+        return Choice {
+            found: true,
+            choice: 0,
+        };
+    }
+    let mut kind = [0u8; 12288];
+    let mut first = [0u16; 12289];
+    let mut operand = [0u16; 24576];
+    let mut due = [0u16; 24576];
+    let mut begin = [0u16; 1025];
+    let cells = compile(
+        net,
+        lab,
+        counts,
+        base,
+        &mut kind,
+        &mut first,
+        &mut operand,
+        &mut due,
+        &mut begin,
+    );
+    let edges = net.edges as usize;
+    solve(&kind, &first, &operand, cells, k, &mut due, &begin, edges)
 }

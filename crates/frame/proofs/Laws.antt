@@ -6,6 +6,8 @@
 --   line-rest, frame-rest        a line that is read is the line written from its bytes
 --   line-written, frame-written  the line written from bytes reads as them
 --   frame-drop                   where the next line starts
+--   behind z l                   the line l, with z behind what follows it
+--   line-longer, frame-longer    a line that is there whole, in a text that goes on
 --   number-append, number-small  the number of bytes, and its bound
 --   number-bytes, bytes-number   a number as n bytes, and back
 --   framed-bad, framed-line      what the code's record says of the line
@@ -236,6 +238,47 @@ frame-drop k n at t bs rest e =
       sym (drop-at (lineOf (k ∷ bs)) rest (2 * n + 3) m) ∙ ap (drop (2 * n + 3)) (sym (w .1 .1)) ∙ drop-drop (2 * n + 3) at t,
       omega (arith, m, simp (length-append, length-drop) at (ap length (w .1 .1))),
     )
+
+-- What stands further on decides nothing of a line that is there whole.
+abbrev pub behind : List ℕ → Line → Line
+behind z bad = bad
+behind z (line bs l) = line bs (l ++ z)
+
+pub line-longer : (n : ℕ) (l z : List ℕ) → 2 * n + 1 ≤ length l → lineAt n (l ++ z) ≡ behind z (lineAt n l)
+unfolding lineAt
+line-longer zero [] z h = absurd (omega arith)
+line-longer zero (c ∷ l) z h = go (eqb c 10)
+  where
+    go : (b : Bool) → cond b (line [] (l ++ z)) bad ≡ behind z (cond b (line [] l) bad)
+    go true = refl
+    go false = refl
+line-longer (suc n) [] z h = absurd (omega arith)
+line-longer (suc n) (a ∷ []) z h = absurd (omega arith)
+line-longer (suc n) (a ∷ b ∷ l) z h = go (cond (ltb (digitOf a) 16) (ltb (digitOf b) 16) false) (line-longer n l z (omega arith))
+  where
+    byte : ℕ
+    byte = digitOf a * 16 + digitOf b
+
+    with : (x : Line) → with-byte byte (behind z x) ≡ behind z (with-byte byte x)
+    with bad = refl
+    with (line bs r) = refl
+
+    go : (t : Bool) → lineAt n (l ++ z) ≡ behind z (lineAt n l) → cond t (with-byte byte (lineAt n (l ++ z))) bad ≡ behind z (cond t (with-byte byte (lineAt n l)) bad)
+    go true e = ap (with-byte byte) e ∙ with (lineAt n l)
+    go false e = refl
+
+pub frame-longer : (k n : ℕ) (l z : List ℕ) → 2 * n + 3 ≤ length l → frameAt k n (l ++ z) ≡ behind z (frameAt k n l)
+unfolding frameAt
+frame-longer k n l z h = ap (of-kind k) (line-longer (suc n) l z (omega arith)) ∙ go (lineAt (suc n) l)
+  where
+    kind : (b : Bool) (bs r : List ℕ) → cond b (line bs (r ++ z)) bad ≡ behind z (cond b (line bs r) bad)
+    kind true bs r = refl
+    kind false bs r = refl
+
+    go : (x : Line) → of-kind k (behind z x) ≡ behind z (of-kind k x)
+    go bad = refl
+    go (line [] r) = refl
+    go (line (b ∷ bs) r) = kind (eqb b k) bs r
 
 -- ── Numbers ─────────────────────────────────────────────────────────────────────────────────
 

@@ -2,21 +2,25 @@
 --   twos z              the lag z as a number of two bytes
 --   lagLine lags v      the line of node v's lag
 --   listed              the new text and the lines of the lags; or the line of the refusal
---   Lists t old r new   the text t listed into a buffer that held `old`
+--   Prints t p          of the text t the bytes p are printed
+--   Shows t r           r holds what is printed of the text t
 -- Assumes nothing.
 use mathlib.Core.Path.{_≡_}
 use mathlib.Core.List.{List, [], _∷_, _++_}
-use Prim.Native.Nat.{ℕ, _+_, _-_, _%_, _<_, _≤_}
+use Prim.Native.Nat.{ℕ, _+_, _-_, _%_}
 use lib.IntN.{ℤ, pos}
-use lib.ListN.{length, getD, take, drop, replicate}
+use lib.ListN.{length, getD, drop, replicate}
+use Rattle.io.specs.Counts.{Counts}
 use Rattle.theory.specs.Lag.{up, down}
 use Rattle.frame.specs.Frame.{bytesOf, lineOf}
 use Rattle.netlist.specs.declared.Netlist.{Netlist}
 use Rattle.netlist.specs.Answer.{Says, value, refused}
+use Rattle.netlist.specs.Net.{zeros}
 use Rattle.netlist.specs.Read.{Reads}
 use Rattle.netlist.specs.Write.{joined}
 use Rattle.retime.specs.Retime.{Retimes}
 use Rattle.show.specs.Shown.{refusalLine}
+use Rattle.list.specs.declared.Printed.{Printed}
 
 -- "two's complement"
 unfoldable pub twos : ℤ → ℕ
@@ -31,19 +35,22 @@ abbrev pub listed : Says → List ℕ → List ℤ → ℕ → List ℕ
 listed (value k) new lags nodes = new ++ joined (lagLine lags) nodes
 listed (refused q k p) new lags nodes = refusalLine (refused q k p)
 
--- What retiming said and left, in a table of 512 lags; and the netlist of the text.
-pub record Listing (t old : List ℕ) (r : ℕ) (new : List ℕ) : Type 0 where
+-- What retiming says of the text and leaves, in a buffer as long as the text ("same length") and a table of 512 lags; and the netlist of the text, for its number of nodes.
+pub record Prints (t p : List ℕ) : Type 0 where
   pub said : Says
-  pub mid : List ℕ
+  pub new : List ℕ
   pub lags : List ℤ
+  pub retimes : Retimes t (zeros (length t)) (replicate 512 (pos 0)) said new lags
   pub read : Says
   pub net : Netlist
   pub reads : Reads t read net
-  pub retimes : Retimes t old (replicate 512 (pos 0)) said mid lags
-  pub result : r ≡ length (listed said (take (length t) mid) lags (net .nodes))
-  pub buffer : new ≡ listed said (take (length t) mid) lags (net .nodes) ++ drop r old
+  pub prints : p ≡ listed said new lags (net .nodes)
 
--- Where there is no room for the text and the lags of 512 nodes, nothing is put out.
-pub record Lists (t old : List ℕ) (r : ℕ) (new : List ℕ) : Type 0 where
-  pub room : length t + 5632 ≤ length old → Listing t old r new
-  pub short : length old < length t + 5632 → (r ≡ 0) × (new ≡ old)
+-- What is printed of the text, however long it is, stands at the front, and 0 past it.
+pub record Shows (t : List ℕ) (r : Printed) : Type 0 where
+  pub printed : List ℕ
+  pub prints : Prints t printed
+  pub count : r .len ≡ length printed
+  pub bytes : r .bytes ≡ printed ++ drop (length printed) (zeros 38400)
+  -- So `&bytes[..len]` is `printed`.
+  pub counts : Counts (r .len) (r .bytes)

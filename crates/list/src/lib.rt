@@ -1,15 +1,16 @@
 // What the program `listing` prints of a text: the new text and a line for each node's lag, or the line of a refusal. The promise is in specs/Listed.
 ghost use mathlib.Core.Path.{_≡_};
 ghost use mathlib.Core.List.{[], _∷_, _++_};
-ghost use Prim.Native.Nat.{ℕ, _+_, _*_, _≤_, _<_};
+ghost use Prim.Native.Nat.{ℕ, _+_, _*_, _≤_, _<_, min};
 ghost use lib.ListN.{length, take, getD};
 ghost use lib.IntN.{pos};
 ghost use lib.Seq.{sets};
-ghost use Rattle.io.specs.Counts.{Counts};
 ghost use Rattle.theory.specs.Lag.{up, down};
 ghost use Rattle.frame.specs.Frame.{bytesOf};
+ghost use Rattle.netlist.specs.Net.{zeros};
 ghost use Rattle.netlist.specs.Write.{joined};
-ghost use Rattle.list.specs.Listed.{twos, lagLine, Lists};
+ghost use Rattle.list.specs.Listed.{twos, lagLine, Shows};
+ghost use Rattle.list.specs.Lists.{Lists};
 use netlist::Answer;
 
 // A lag and 32,768.
@@ -59,17 +60,11 @@ fn put_lag_lines(lags: &[i32], nodes: usize, out: &mut [u8], at0: usize) -> usiz
     at
 }
 
-// A text retimed and listed at the front of `out`; how many bytes that took. Where there is no room for the text and the lags of 512 nodes, none.
-pub fn list(text: &[u8], out: &mut [u8]) -> usize
+// A text retimed and listed at the front of `out`, which has room for the text and the lags of 512 nodes; how many bytes that took.
+fn list(text: &[u8], out: &mut [u8]) -> usize
+    requires { ⌜ length (now text) + 5632 ≤ length (now out) ⌝ }
     ensures { λ r. ⌜ Lists (now (text .entry)) (now (out .entry)) r (now (out .exit)) ⌝ }
-    ensures { λ r. ⌜ Counts r (now (out .exit)) ⌝ }
 {
-    if out.len() < 5632 {
-        return 0;
-    }
-    if out.len() - 5632 < text.len() {
-        return 0;
-    }
     let mut lags = [0i32; 512];
     let a = retime::retime(text, out, &mut lags);
     match a {
@@ -80,4 +75,34 @@ pub fn list(text: &[u8], out: &mut [u8]) -> usize
         }
         Answer::Refused(q, p) => show::put_refusal(q, p, out),
     }
+}
+
+// How many bytes of a text are looked at: "up to 32,768 bytes (more decides nothing)".
+fn looked_at(len: usize) -> usize
+    ensures { λ r. ⌜ r ≡ min 32768 len ⌝ }
+{
+    if len < 32768 { len } else { 32768 }
+}
+
+// What is printed: the first `len` of these bytes.
+pub struct Printed {
+    pub len: usize,
+    pub bytes: [u8; 38400],
+}
+
+// 38,400 zeros: room for 32,768 bytes and the lags of 512 nodes.
+fn blank() -> [u8; 38400]
+    ensures { λ r. ⌜ r ≡ zeros 38400 ⌝ }
+{
+    [0; 38400]
+}
+
+// What the program `listing` prints of a text, of any length.
+pub fn listing(text: &[u8]) -> Printed
+    ensures { λ r. ⌜ Shows (now (text .entry)) r ⌝ }
+{
+    let mut bytes = blank();
+    let n = looked_at(text.len());
+    let len = list(&text[..n], &mut bytes);
+    Printed { len, bytes }
 }

@@ -6,7 +6,7 @@ use libc::STDOUT_FILENO;
 fn main() {
     let mut text = [0u8; 32768];
     let n = io::read_full(STDIN_FILENO, &mut text);
-    let mut out = [0u8; 38400];
-    let m = list::list(&text[..n], &mut out);
-    io::write_all(STDOUT_FILENO, &out[..m]);
+    let listing = list::listing(&text[..n]);
+    let bytes = listing.bytes;
+    io::write_all(STDOUT_FILENO, &bytes[..listing.len]);
 }

@@ -14,10 +14,11 @@ fn pair(high: u8, low: u8) -> usize
 }
 
 // A text as long as `text`, taken from the input and listed.
-fn again(text: &mut [u8], out: &mut [u8]) {
+fn again(text: &mut [u8]) {
     let n = io::read_full(STDIN_FILENO, text);
-    let m = list::list(&text[..n], out);
-    io::write_all(STDOUT_FILENO, &out[..m]);
+    let listing = list::listing(&text[..n]);
+    let bytes = listing.bytes;
+    io::write_all(STDOUT_FILENO, &bytes[..listing.len]);
 }
 
 // The next length and its text; false where there is none.
@@ -30,8 +31,7 @@ fn next() -> bool {
     }
     let n = pair(head.bytes[0], head.bytes[1]);
     let mut text = io::large_buffer();
-    let mut out = io::large_buffer();
-    again(&mut text[..n], &mut out);
+    again(&mut text[..n]);
     true
 }
 

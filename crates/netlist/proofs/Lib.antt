@@ -15,6 +15,8 @@ pub mod Account
 pub mod Judged
 pub mod Lowest
 pub mod Decide
+-- They say the same of netlists that are the same.
+pub mod Alike
 -- The theorems of specs/Theorems.
 pub mod theorems
 -- From what a stage answered to what reading and writing say.

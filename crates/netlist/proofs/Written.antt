@@ -3,21 +3,25 @@
 --   head-length, node-length, edge-length, text-length    how long the lines and the text of a record are
 --   put-more            one line more at the cursor
 --   text-parts          head, nodes and edges: the text
+--   text-in             what `put_text` puts: the text
+--   text-nodes, text-edges, text-room    or nothing: too many nodes, too many edges, too little room
+--   text-put            so that is what is written by a caller that has made sure of rows and room
 --   front-written       what is written stands at the front
 -- Assumes nothing.
-use Prim.Native.Nat.{ℕ, zero, suc, _+_, _*_, _≤_}
+use Prim.Native.Nat.{ℕ, zero, suc, _+_, _*_, _≤_, _<_}
 use mathlib.Core.Path.{_≡_, ap, sym, _∙_}
-use mathlib.Core.List.{List, _++_}
+use mathlib.Core.List.{List, [], _++_}
 use native.Mathlib.Omega.{arith}
 use native.Mathlib.Nat.{mul-suc}
 use native.Mathlib.Numerals.{add-one}
+use borrow.Author.Tests.{le-leb, lt-leb}
 use lib.ListN.{length, take, drop, length-append}
 use lib.Seq.{sets, sets-eq, length-sets, take-at}
 use Rattle.frame.specs.Frame.{bytesOf}
 use Rattle.frame.specs.Decoded.{placed}
 use Rattle.frame.proofs.Laws.{length-line, placed-room, sets-sets}
 use Rattle.netlist.specs.declared.Netlist.{Netlist}
-use Rattle.netlist.specs.Write.{headLine, nodeLine, edgeLine, joined, textOf}
+use Rattle.netlist.specs.Write.{headLine, nodeLine, edgeLine, joined, textOf, textIn}
 
 pub length-joined : (f : ℕ → List ℕ) (k : ℕ) → ((i : ℕ) → length (f i) ≡ k) → (n : ℕ) → length (joined f n) ≡ k * n
 unfolding joined
@@ -66,6 +70,29 @@ text-parts net old room =
     ap (λ x. sets (sets x 17 n) (17 + length n) m) (placed-room old 0 h r)
     ∙ ap (λ x. sets x (17 + length n) m) (sets-sets h n old 0 17 (omega arith))
     ∙ sets-sets (h ++ n) m old 0 (17 + length n) (omega (arith, length-append h n))
+
+-- With its rows and room the text is put; with too many nodes or edges, or too little room, nothing.
+module _ (net : Netlist) (m : ℕ) where
+  pub text-in : net .nodes ≤ 512 → net .edges ≤ 1024 → length (textOf net) ≤ m → textIn net m ≡ textOf net
+  unfolding textIn
+  text-in h k room = rw (le-leb (net .nodes) 512 h, le-leb (net .edges) 1024 k, le-leb (length (textOf net)) m room)
+
+  pub text-nodes : 512 < net .nodes → textIn net m ≡ []
+  unfolding textIn
+  text-nodes h = rw (lt-leb (net .nodes) 512 h)
+
+  pub text-edges : net .nodes ≤ 512 → 1024 < net .edges → textIn net m ≡ []
+  unfolding textIn
+  text-edges h k = rw (le-leb (net .nodes) 512 h, lt-leb (net .edges) 1024 k)
+
+  pub text-room : net .nodes ≤ 512 → net .edges ≤ 1024 → m < length (textOf net) → textIn net m ≡ []
+  unfolding textIn
+  text-room h k room = rw (le-leb (net .nodes) 512 h, le-leb (net .edges) 1024 k, lt-leb (length (textOf net)) m room)
+
+-- What a caller that has made sure of rows and room knows.
+pub text-put : (net : Netlist) (old new : List ℕ) (n : ℕ) → new ≡ sets old 0 (textIn net (length old)) → n ≡ length (textIn net (length old))
+    → net .nodes ≤ 512 → net .edges ≤ 1024 → length (textOf net) ≤ length old → (new ≡ sets old 0 (textOf net)) × (n ≡ length (textOf net))
+text-put net old new n e l h k room = let w = text-in net (length old) h k room in (e ∙ ap (sets old 0) w, l ∙ ap length w)
 
 -- What is written stands at the front.
 pub front-written : (old text new : List ℕ) (n : ℕ) → new ≡ sets old 0 text → n ≡ length text → length text ≤ length old → (take n new ≡ text) × (n ≤ length new)

@@ -1,8 +1,12 @@
 -- The theorems of reading and writing, beside the calls' own contracts. Each is a type; proofs/theorems has a term of it.
---   SomeReading, OneReading, OneWriting    every text has exactly one outcome, and a record one writing at most
+--   SomeReading, OneReading                every text has exactly one outcome
+--   SomeWriting, OneWriting                a record has exactly one writing into each buffer
 --   LinesFact, FaultFact, FaultPlace       when the lines are right, and which line is refused with which number
 --   RefusalFacts                           when 5, 6, 7 and nothing is given
+--   MoreDecidesNothing                     bytes past the 25,106th are read by nothing
 --   RecordFact                             a record's lines: never refused 1, and right exactly when it keeps the rules
+--   RecordFaults, RecordJudged             which rule of a line, and which of 5, 6 and 7, a record itself breaks
+--   SoundWritten                           a record that keeps all rules is written, and no other
 --   ReadIsSound                            what reads is a sound circuit
 --   RoundTripText, RoundTripNetlist        demand 2
 --   RecordRowsUnread                       rows past the netlist's are read by nothing
@@ -21,7 +25,7 @@ use Rattle.netlist.specs.declared.Netlist.{Netlist}
 use Rattle.netlist.specs.Answer.{Says, value, whole, node, line as at-line}
 use Rattle.netlist.specs.Net.{graphOf, regsOf}
 use Rattle.rules.specs.Rules.{headFits, nodeFits, edgeFits}
-use Rattle.netlist.specs.Read.{FanIn, fault, lines, linesOf, Joined, All, Lowest, Reads}
+use Rattle.netlist.specs.Read.{FanIn, fault, lines, linesOf, Joined, All, Lowest, Judged, Reads}
 use Rattle.netlist.specs.Write.{headLine, nodeLine, edgeLine, joined, textOf, Writes}
 
 -- ── No answer is free ───────────────────────────────────────────────────────────────────────
@@ -32,6 +36,10 @@ SomeReading = (t : List ℕ) → (s : Says) × (net : Netlist) × Reads t s net
 
 abbrev pub OneReading : Type 0
 OneReading = (t : List ℕ) (s s′ : Says) (net net′ : Netlist) → Reads t s net → Reads t s′ net′ → (s ≡ s′) × (net ≡ net′)
+
+-- So has a record to be written, with what the buffer held.
+abbrev pub SomeWriting : Type 0
+SomeWriting = (net : Netlist) (old : List ℕ) → (s : Says) × (new : List ℕ) × Writes net old s new
 
 abbrev pub OneWriting : Type 0
 OneWriting = (net : Netlist) (old : List ℕ) (s s′ : Says) (new new′ : List ℕ) → Writes net old s new → Writes net old s′ new′ → (s ≡ s′) × (new ≡ new′)
@@ -100,6 +108,13 @@ pub record WholeFacts (t : List ℕ) (s : Says) (net read : Netlist) (h : linesO
 abbrev pub RefusalFacts : Type 0
 RefusalFacts = (t : List ℕ) (s : Says) (net read : Netlist) (h : linesOf t ≡ lines read) (r : Reads t s net) → WholeFacts t s net read h r
 
+-- "a text of up to 32,768 bytes (more decides nothing)": the longest text that reads has 25,105 (a head of 17, 512 nodes of 7 each, 1,024 edges of 21 each).
+-- A longer one is refused by its first 25,106 bytes, and no line is looked at past them.
+abbrev pub MoreDecidesNothing : Type 0
+MoreDecidesNothing = (t : List ℕ) (n : ℕ) → 25105 < n → (s : Says) (net : Netlist) → Reads t s net ↔ Reads (take n t) s net
+
+-- ── Records ─────────────────────────────────────────────────────────────────────────────────
+
 -- "A netlist is its head, its N nodes and its E edges."
 pub record Same (net net′ : Netlist) : Type 0 where
   pub head : (net .period ≡ net′ .period) × (net .derate ≡ net′ .derate) × (net .nodes ≡ net′ .nodes) × (net .edges ≡ net′ .edges)
@@ -121,6 +136,36 @@ RecordFact = (net : Netlist) → Typed net
     × (((back : Netlist) × (linesOf (textOf net) ≡ lines back)) ↔ Fit net)
     × ((back : Netlist) → linesOf (textOf net) ≡ lines back → Same net back × Clean back)
 
+-- The first line of a record that breaks its rule: 2, 3 or 4, and its number.
+pub data RecordFault (net : Netlist) : ℕ → ℕ → Type 0 where
+  bad-head : headFits (net .period) (net .derate) (net .nodes) (net .edges) ≡ false → RecordFault net 2 1
+  bad-node : (v : ℕ) → FitTo net v 0 → v < net .nodes → nodeFits (getD (net .kind) v 0) (getD (net .delay) v 0) ≡ false → RecordFault net 3 (v + 2)
+  bad-edge : (e : ℕ) → FitTo net (net .nodes) e → e < net .edges
+      → edgeFits (net .nodes) (graphOf net .kind) (getD (net .from) e 0) (getD (net .to) e 0) (getD (net .count) e 0) (getD (net .start) e 0) ≡ false
+      → RecordFault net 4 (net .nodes + e + 2)
+
+abbrev pub RecordFaults : Type 0
+RecordFaults = (net : Netlist) → Typed net → (q n : ℕ) → (linesOf (textOf net) ≡ fault (at-line q n)) ↔ RecordFault net q n
+
+-- Of a record whose lines keep their rules, 5, 6, 7 or nothing is said as they hold of the record itself.
+abbrev pub RecordJudged : Type 0
+RecordJudged = (net : Netlist) → Fit net → (s : Says) (back : Netlist) → Reads (textOf net) s back → Judged net s
+
+-- The record itself keeps the rules 2 to 7.
+pub record Keeps (net : Netlist) : Type 0 where
+  pub lines : Fit net
+  pub fan-in : All (FanIn (graphOf net)) (net .nodes)
+  pub no-loop : ¬ Loop (graphOf net) (regsOf net .count)
+  pub joined : All (Joined (graphOf net)) (net .nodes)
+
+-- "Where nothing is broken the job is done": a record is written exactly where it keeps the rules and there is room; then it is its text that is written.
+abbrev pub SoundWritten : Type 0
+SoundWritten = (net : Netlist) → Typed net → (old : List ℕ) (n : ℕ) (new : List ℕ)
+    → Writes net old (value n) new
+    ↔ (Keeps net × (length (textOf net) ≤ length old) × (n ≡ length (textOf net)) × (new ≡ textOf net ++ drop (length (textOf net)) old))
+
+-- ── Sound netlists ──────────────────────────────────────────────────────────────────────────
+
 -- What reads is a sound circuit, so the theory speaks of it.
 abbrev pub ReadIsSound : Type 0
 ReadIsSound = (t : List ℕ) (net : Netlist) → Reads t (value 0) net → Sound gate (graphOf net) (regsOf net)
@@ -132,7 +177,7 @@ abbrev pub RoundTripText : Type 0
 RoundTripText = (t : List ℕ) (net : Netlist) (old : List ℕ) (s : Says) (new : List ℕ) → Reads t (value 0) net → length t ≤ length old
     → Writes net old s new → (s ≡ value (length t)) × (new ≡ t ++ drop (length t) old)
 
--- "a sound netlist written and read again is the same netlist": it is sound where writing does not refuse it.
+-- "a sound netlist written and read again is the same netlist": it is sound where it keeps the rules, which is where it can be written (SoundWritten).
 abbrev pub RoundTripNetlist : Type 0
 RoundTripNetlist = (net : Netlist) (old new : List ℕ) (n : ℕ) → Typed net → Writes net old (value n) new
     → (back : Netlist) × Reads (take n new) (value 0) back × Same net back × (Clean net → back ≡ net)

@@ -1,7 +1,6 @@
 // Rules 5, 6 and 7, of a netlist whose lines are right.
 // Private to the crate: `read` comes here once the lines are right.
-ghost use mathlib.Core.Path.{_≡_};
-ghost use Rattle.netlist.specs.Answer.{says, whole};
+ghost use Rattle.netlist.specs.Answer.{says};
 ghost use Rattle.netlist.specs.Net.{graphOf};
 ghost use Rattle.netlist.specs.Read.{Joined, Judged, FanIn};
 ghost use Rattle.netlist.specs.Stages.{Sought};
@@ -18,7 +17,7 @@ fn fan_fault(net: Netlist) -> Answer
 {
     let nodes = net.nodes as usize;
     let ins = graph::fan_ins(&net.from, &net.to, nodes, net.edges as usize);
-    let mut v = 0;
+    let mut v: usize = 0;
     while v < nodes {
         if !fan_fits(net.kind[v], ins[v]) {
             return Answer::Refused(5, Place::Node(v as u16));

@@ -10,6 +10,7 @@ pub use writing::put_text;
 pub use writing::write;
 
 // "A netlist is its head, its N nodes and its E edges; record rows past them are read by nothing, and reading makes them 0."
+#[repr(C)]
 pub struct Netlist {
     pub period: u16,
     pub derate: u8,

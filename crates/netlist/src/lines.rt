@@ -1,7 +1,7 @@
 // Reading: the lines in turn, each at a cursor, filling the record row by row; then rules 5, 6 and 7.
 ghost use mathlib.Core.Path.{_≡_};
 ghost use Prim.Native.Nat.{_+_, _*_, _≤_};
-ghost use lib.ListN.{length, drop};
+ghost use lib.ListN.{drop};
 ghost use Rattle.netlist.specs.Answer.{says};
 ghost use Rattle.netlist.specs.Stages.{Goes, Lined};
 ghost use Rattle.netlist.specs.Net.{emptyNet, withHead};

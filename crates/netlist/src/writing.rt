@@ -9,7 +9,7 @@ ghost use Rattle.frame.specs.Frame.{bytesOf};
 ghost use Rattle.netlist.specs.Answer.{says};
 ghost use Rattle.netlist.specs.Read.{Reads};
 ghost use Rattle.rules.specs.Rules.{headFits};
-ghost use Rattle.netlist.specs.Write.{nodeLine, edgeLine, joined, textOf, Writes};
+ghost use Rattle.netlist.specs.Write.{nodeLine, edgeLine, joined, textOf, textIn, Writes};
 use crate::Answer;
 use crate::Netlist;
 use crate::Place;
@@ -105,11 +105,20 @@ fn text_len(net: Netlist) -> usize
     17 + 7 * (net.nodes as usize) + 21 * (net.edges as usize)
 }
 
-// The text at the front of `out`; its length. Required: a head in its ranges, and room; `write` and retiming have made sure of both.
+// The text at the front of `out`, where the record has its rows and there is room; how many bytes that took, 0 where it left `out`.
 pub fn put_text(net: Netlist, out: &mut [u8]) -> usize
-    requires { ⌜ (net .nodes ≤ 512) × (net .edges ≤ 1024) × (length (textOf net) ≤ length (now out)) ⌝ }
-    ensures { λ r. ⌜ (now (out .exit) ≡ sets (now (out .entry)) 0 (textOf net)) × (r ≡ length (textOf net)) ⌝ }
+    ensures { λ r. ⌜ now (out .exit) ≡ sets (now (out .entry)) 0 (textIn net (length (now (out .entry)))) ⌝ }
+    ensures { λ r. ⌜ r ≡ length (textIn net (length (now (out .entry)))) ⌝ }
 {
+    if 512 < net.nodes {
+        return 0;
+    }
+    if 1024 < net.edges {
+        return 0;
+    }
+    if out.len() < text_len(net) {
+        return 0;
+    }
     let b = head_bytes(net.period, net.derate, net.nodes, net.edges);
     put_line(out, 0, b, 8);
     let at = put_nodes(net, out, 17);
@@ -143,16 +152,15 @@ pub fn check(net: Netlist) -> Reading
 pub fn write(net: Netlist, out: &mut [u8]) -> Answer
     ensures { λ r. ⌜ Writes net (now (out .entry)) (says r) (now (out .exit)) ⌝ }
 {
-    if !head_fits(net.period, net.derate, net.nodes, net.edges) {
-        return Answer::Refused(2, Place::Line(1));
-    }
-    let reading = reread(net);
+    let reading = check(net);
     let a = reading.answer;
     let Answer::Done(_) = a else {
         return a;
     };
-    if out.len() < text_len(net) {
+    let n = text_len(net);
+    if out.len() < n {
         return Answer::Refused(12, Place::Whole);
     }
-    Answer::Done(put_text(net, out))
+    put_text(net, out);
+    Answer::Done(n)
 }

@@ -2,13 +2,14 @@
 //
 // Before each text stands a frame `00` with its length in bytes (2). The run ends with the input, at a line that is no such frame,
 // or after 65,536 texts. A last text that the input cuts short is taken as it stands.
-ghost use Prim.Native.Nat.{_<_};
+ghost use mathlib.Core.Path.{_≡_};
+ghost use Prim.Native.Nat.{_+_, _*_, _<_};
 use libc::STDIN_FILENO;
 use libc::STDOUT_FILENO;
 
 // The number of two bytes, high byte first.
 fn pair(high: u8, low: u8) -> usize
-    ensures { λ r. ⌜ r < 65536 ⌝ }
+    ensures { λ r. ⌜ (r ≡ high * 256 + low) × (r < 65536) ⌝ }
 {
     (high as usize) * 256 + (low as usize)
 }

@@ -4,6 +4,7 @@
 --   Told                a call's end: its fact holds and none before it does
 --   stageOf s           the end that says s
 --   before-8, ..        of each end, that no fact before it holds
+--   stays               after a refusal both buffers hold what they held
 --   told, told-of       every outcome is told so, or its text does not read
 --   one-stage           two facts that are the first to hold are one
 --   tell, told-at       from the first fact that holds to the end, and from what is said
@@ -11,18 +12,18 @@
 -- Assumes nothing.
 use Prim.Native.Nat.{ℕ, zero, suc, _-_, _<_}
 use native.Mathlib.Omega.{arith}
-use mathlib.Core.Path.{_≡_, refl, sym, ap, _∙_, subst}
+use mathlib.Core.Path.{_≡_, refl, sym, ap, ap₂, _∙_, subst}
 use mathlib.Core.Logic.{_⊎_, inl, inr, ⊎-elim}
-use mathlib.Core.List.{List, [], _∷_, _++_}
+use mathlib.Core.List.{List, [], _∷_}
 use lib.IntN.{ℤ}
-use lib.ListN.{length, getD, drop}
+use lib.ListN.{getD}
 use Rattle.theory.specs.Gate.{gate}
-use Rattle.theory.specs.Move.{choiceOf, Best}
-use Rattle.theory.specs.Retimer.{Sound, NoRetiming, TooWide, Narrow, TooMany, NoStart, Answer}
+use Rattle.theory.specs.Move.{chosenIn, choiceOf}
+use Rattle.theory.specs.Retimer.{Sound, Answer}
 use Rattle.theory.proofs.moves.Best.{choice-bit, best-unique}
 use Rattle.theory.proofs.least.Exists.{least-unique}
 use Rattle.netlist.specs.declared.Netlist.{Netlist}
-use Rattle.netlist.specs.Answer.{Says, value, refused, whole, edge}
+use Rattle.netlist.specs.Answer.{Says, value, refused, whole, edge, holds}
 use Rattle.netlist.specs.Net.{graphOf, regsOf, delayOf}
 use Rattle.netlist.specs.Read.{Reads}
 use Rattle.netlist.specs.Write.{textOf}
@@ -31,7 +32,7 @@ use Rattle.netlist.proofs.Fits.{clash}
 use Rattle.netlist.proofs.theorems.One.{one-reading}
 use Rattle.netlist.proofs.theorems.Sound.{read-is-sound}
 use Rattle.moves.specs.Moved.{movedNet}
-use Rattle.retime.specs.Retime.{LeastLags, Untouched, Room, Written, Retimes, unread, twelve, eight, nine, ten, eleven, done}
+use Rattle.retime.specs.Retime.{NoneMeets, LeastLags, WideAt, NarrowAt, ManyAt, StartlessAt, BestAt, lagTable, wide, many, startless, moved, Room, Short, Untouched, Left, Retimes, unread, twelve, eight, found}
 use Rattle.moves.proofs.Rows.{rows-same}
 use Rattle.moves.proofs.Lags.{count-alike, chosen-alike, best-alike, no-start-alike}
 use Rattle.retime.proofs.theorems.Moved.{moved-alike}
@@ -40,11 +41,11 @@ use Rattle.retime.proofs.theorems.Moved.{moved-alike}
 
 module _ (t out : List ℕ) (lags : List ℤ) (net : Netlist) where
   abbrev pub Fact : ℕ → Type 0
-  Fact zero = (length out < length t) ⊎ (length lags < net .nodes)
-  Fact (suc zero) = NoRetiming (graphOf net) (regsOf net .count) (delayOf net) (net .period)
-  Fact (suc (suc zero)) = (r : ℕ → ℤ) × LeastLags net r × (e : ℕ) × TooWide (graphOf net) (regsOf net .count) r e
-  Fact (suc (suc (suc zero))) = (r : ℕ → ℤ) × LeastLags net r × Narrow (graphOf net) (regsOf net .count) r × TooMany (graphOf net) (regsOf net .count) r
-  Fact (suc (suc (suc (suc zero)))) = (r : ℕ → ℤ) × LeastLags net r × NoStart gate (graphOf net) (regsOf net) r
+  Fact zero = Short t out lags net
+  Fact (suc zero) = NoneMeets net
+  Fact (suc (suc zero)) = (r : ℕ → ℤ) × LeastLags net r × (e : ℕ) × WideAt net r e
+  Fact (suc (suc (suc zero))) = (r : ℕ → ℤ) × LeastLags net r × NarrowAt net r × ManyAt net r
+  Fact (suc (suc (suc (suc zero)))) = (r : ℕ → ℤ) × LeastLags net r × StartlessAt net r
   Fact (suc (suc (suc (suc (suc n))))) = (r : ℕ → ℤ) × (c : ℕ) × Answer gate (graphOf net) (regsOf net) (delayOf net) (net .period) r c
 
   -- The i-th is the first that holds.
@@ -67,12 +68,12 @@ module _ (t out : List ℕ) (lags : List ℤ) (s : Says) (out′ : List ℕ) (la
   abbrev pub End : ℕ → Type 0
   End zero = Untouched t out lags s out′ lags′ (whole 12)
   End (suc zero) = Untouched t out lags s out′ lags′ (whole 8)
-  End (suc (suc zero)) = (r : ℕ → ℤ) × LeastLags net r × (e : ℕ) × TooWide (graphOf net) (regsOf net .count) r e × Untouched t out lags s out′ lags′ (edge 9 e)
+  End (suc (suc zero)) = (r : ℕ → ℤ) × LeastLags net r × (e : ℕ) × WideAt net r e × Untouched t out lags s out′ lags′ (edge 9 e)
   End (suc (suc (suc zero))) = Untouched t out lags s out′ lags′ (whole 10)
   End (suc (suc (suc (suc zero)))) = Untouched t out lags s out′ lags′ (whole 11)
   End (suc (suc (suc (suc (suc n))))) =
-      (r : ℕ → ℤ) × LeastLags net r × Narrow (graphOf net) (regsOf net .count) r × (c : ℕ) × Best gate (graphOf net) (regsOf net) r c
-      × Written t out lags s out′ lags′ net r c
+      (r : ℕ → ℤ) × LeastLags net r × NarrowAt net r × (c : ℕ) × BestAt net r c
+      × (s ≡ value (chosenIn (graphOf net) (regsOf net .count) r)) × Left t out lags s out′ lags′ net r (movedNet net r c)
 
   pub record Told : Type 0 where
     pub stage : ℕ
@@ -82,34 +83,34 @@ module _ (t out : List ℕ) (lags : List ℤ) (s : Says) (out′ : List ℕ) (la
 
 -- ── No earlier fact holds ───────────────────────────────────────────────────────────────────
 
-module _ (t out : List ℕ) (lags : List ℤ) (s : Says) (out′ : List ℕ) (lags′ : List ℤ) (net : Netlist) (room : Room t out lags s out′ lags′ net) where
+module _ (t out : List ℕ) (lags : List ℤ) (net : Netlist) (h : Reads t (value 0) net) (room : Room t out lags net) where
   -- What reads is sound.
   ok : Sound gate (graphOf net) (regsOf net)
-  ok = read-is-sound t net (room .reads)
+  ok = read-is-sound t net h
 
   abbrev pub Before : ℕ → Type 0
   Before i = (j : ℕ) → j < i → ¬ Fact t out lags net j
 
   pub before-8 : Before 1
-  before-8 = below-more (λ j. ¬ Fact t out lags net j) 0 (λ j h. absurd (omega arith)) (⊎-elim (λ h. omega (arith, room .text-room)) (λ h. omega (arith, room .lag-room)))
+  before-8 = below-more (λ j. ¬ Fact t out lags net j) 0 (λ j l. absurd (omega arith)) (⊎-elim (λ x. omega (arith, room .text)) (λ x. omega (arith, room .table)))
 
   module _ (r : ℕ → ℤ) (l : LeastLags net r) where
     pub before-9 : Before 2
     before-9 = below-more (λ j. ¬ Fact t out lags net j) 1 before-8 (λ n. n r (l .feasible))
 
-    module _ (narrow : Narrow (graphOf net) (regsOf net .count) r) where
+    module _ (narrow : NarrowAt net r) where
       pub before-10 : Before 3
       before-10 =
           below-more (λ j. ¬ Fact t out lags net j) 2 before-9
           (λ (q, m, e, w). omega (arith, w .wide, narrow e (w .edge), count-alike gate (graphOf net) (ok .wired) (regsOf net) r q (least-unique r q l m) e (w .edge)))
 
-      module _ (few : ¬ TooMany (graphOf net) (regsOf net .count) r) where
+      module _ (few : ¬ ManyAt net r) where
         pub before-11 : Before 4
         before-11 =
             below-more (λ j. ¬ Fact t out lags net j) 3 before-10
             (λ (q, m, n, w). omega (arith, chosen-alike gate (graphOf net) (ok .wired) (regsOf net) r q (least-unique r q l m)))
 
-        pub before-done : (c : ℕ) → Best gate (graphOf net) (regsOf net) r c → Before 5
+        pub before-done : (c : ℕ) → BestAt net r c → Before 5
         before-done c b =
             below-more (λ j. ¬ Fact t out lags net j) 4 before-11
             (λ (q, m, n). no-start-alike gate (graphOf net) (regsOf net) ok q r (m .feasible .legal) (least-unique q r m l) n
@@ -118,29 +119,38 @@ module _ (t out : List ℕ) (lags : List ℤ) (s : Says) (out′ : List ℕ) (la
 -- ── Every outcome has its end ───────────────────────────────────────────────────────────────
 
 module _ {t out : List ℕ} {lags : List ℤ} {s : Says} {out′ : List ℕ} {lags′ : List ℤ} where
+  -- After a refusal both hold what they held.
+  pub stays : {q k p : ℕ} (net : Netlist) (r : ℕ → ℤ) (new : Netlist) → s ≡ refused q k p → Left t out lags s out′ lags′ net r new → Untouched t out lags s out′ lags′ (refused q k p)
+  stays net r new z x =
+      record { answer = z; buffer = x .buffer ∙ ap (λ a. holds a (textOf new) out) z; table = x .table ∙ ap (λ a. holds a (lagTable net r) lags) z }
+
   -- The text does not read; or it does, and the call has an end.
   pub told : Retimes t out lags s out′ lags′
       → ((q : ℕ) × (k : ℕ) × (p : ℕ) × (net : Netlist) × Reads t (refused q k p) net × Untouched t out lags s out′ lags′ (refused q k p))
       ⊎ ((net : Netlist) × Reads t (value 0) net × Told t out lags s out′ lags′ net)
   told (unread q k p net h u) = inl (q, k, p, net, h, u)
   told (twelve net h short u) = inr (net, h, record { stage = 0; first = record { holds = short; none-before = λ j l. absurd (omega arith) }; end = u; says = ap stageOf (u .answer) })
-  told (eight net m n u) =
-      inr (net, m .reads, record { stage = 1; first = record { holds = n; none-before = before-8 t out lags s out′ lags′ net m }; end = u; says = ap stageOf (u .answer) })
-  told (nine net m r l e w u) =
-      inr (net, m .reads, record { stage = 2; first = record { holds = (r, l, e, w); none-before = before-9 t out lags s out′ lags′ net m r l }; end = (r, l, e, w, u); says = ap stageOf (u .answer) })
-  told (ten net m r l n many u) =
-      inr (net, m .reads, record { stage = 3; first = record { holds = (r, l, n, many); none-before = before-10 t out lags s out′ lags′ net m r l n }; end = u; says = ap stageOf (u .answer) })
-  told (eleven net m r l n few none u) =
-      inr (net, m .reads, record { stage = 4; first = record { holds = (r, l, none); none-before = before-11 t out lags s out′ lags′ net m r l n few }; end = u; says = ap stageOf (u .answer) })
-  told (done net m r l n few c b w) =
+  told (eight net h m n u) =
+      inr (net, h, record { stage = 1; first = record { holds = n; none-before = before-8 t out lags net h m }; end = u; says = ap stageOf (u .answer) })
+  told (found net h m r l new (wide e w z) x) =
       inr (
         net,
-        m .reads,
+        h,
+        record { stage = 2; first = record { holds = (r, l, e, w); none-before = before-9 t out lags net h m r l }; end = (r, l, e, w, stays net r new z x); says = ap stageOf z },
+      )
+  told (found net h m r l new (many n above z) x) =
+      inr (net, h, record { stage = 3; first = record { holds = (r, l, n, above); none-before = before-10 t out lags net h m r l n }; end = stays net r new z x; says = ap stageOf z })
+  told (found net h m r l new (startless n few none z) x) =
+      inr (net, h, record { stage = 4; first = record { holds = (r, l, none); none-before = before-11 t out lags net h m r l n few }; end = stays net r new z x; says = ap stageOf z })
+  told (found net h m r l new (moved n few c b z y) x) =
+      inr (
+        net,
+        h,
         record {
           stage = 5;
-          first = record { holds = (r, c, record { least = l; best = b }); none-before = before-done t out lags s out′ lags′ net m r l n few c b };
-          end = (r, l, n, c, b, w);
-          says = ap stageOf (w .answer);
+          first = record { holds = (r, c, record { least = l; best = b }); none-before = before-done t out lags net h m r l n few c b };
+          end = (r, l, n, c, b, z, subst (Left t out lags s out′ lags′ net r) y x);
+          says = ap stageOf z;
         },
       )
 
@@ -167,8 +177,7 @@ pub untouched-alike : {t out : List ℕ} {lags : List ℤ} {s s″ : Says} {out�
 untouched-alike e u v = (u .answer ∙ e ∙ sym (v .answer), u .buffer ∙ sym (v .buffer), u .table ∙ sym (v .table))
 
 -- The lowest edge with a new count above 32 is one.
-pub lowest-one : (net : Netlist) → Sound gate (graphOf net) (regsOf net) → (r q : ℕ → ℤ) → LeastLags net r → LeastLags net q → (e i : ℕ)
-    → TooWide (graphOf net) (regsOf net .count) r e → TooWide (graphOf net) (regsOf net .count) q i → e ≡ i
+pub lowest-one : (net : Netlist) → Sound gate (graphOf net) (regsOf net) → (r q : ℕ → ℤ) → LeastLags net r → LeastLags net q → (e i : ℕ) → WideAt net r e → WideAt net q i → e ≡ i
 lowest-one net ok r q l m e i w x =
     let same = count-alike gate (graphOf net) (ok .wired) (regsOf net) r q (least-unique r q l m) in
     let less : ¬ (e < i) = λ h. omega (arith, x .lowest e h, same e (w .edge), w .wide) in
@@ -176,15 +185,16 @@ lowest-one net ok r q l m e i w x =
     omega arith
 
 module _ (net : Netlist) (ok : Sound gate (graphOf net) (regsOf net)) (t out : List ℕ) (lags : List ℤ) (s s″ : Says) (out′ out″ : List ℕ) (lags′ lags″ : List ℤ) where
-  written-alike : (r q : ℕ → ℤ) → LeastLags net r → LeastLags net q → (c d : ℕ) → Best gate (graphOf net) (regsOf net) r c → Best gate (graphOf net) (regsOf net) q d
-      → Written t out lags s out′ lags′ net r c → Written t out lags s″ out″ lags″ net q d → (s ≡ s″) × (out′ ≡ out″) × (lags′ ≡ lags″)
-  written-alike r q l m c d b o w x =
+  -- The least lags are one at each node, so the smallest number is one, and the netlist moved by them.
+  moved-one : End t out lags s out′ lags′ net 5 → End t out lags s″ out″ lags″ net 5 → (s ≡ s″) × (out′ ≡ out″) × (lags′ ≡ lags″)
+  moved-one (r, l, _, c, b, z, w) (q, m, _, d, o, y, x) =
       let same = least-unique r q l m in
       let number : c ≡ d = best-unique gate (graphOf net) (regsOf net) q c d (best-alike gate (graphOf net) (regsOf net) ok r q (l .feasible .legal) same c b) o in
-      let moved : movedNet net r c ≡ movedNet net q d = moved-alike net r q c (ok .wired) same ∙ ap (movedNet net q) number in (
-        w .answer ∙ ap value (chosen-alike gate (graphOf net) (ok .wired) (regsOf net) r q same) ∙ sym (x .answer),
-        w .buffer ∙ ap (λ n. textOf n ++ drop (length t) out) moved ∙ sym (x .buffer),
-        w .table ∙ ap (λ a. a ++ drop (net .nodes) lags) (rows-same r q (net .nodes) same) ∙ sym (x .table),
+      let net′ : movedNet net r c ≡ movedNet net q d = moved-alike net r q c (ok .wired) same ∙ ap (movedNet net q) number in
+      let says : s ≡ s″ = z ∙ ap value (chosen-alike gate (graphOf net) (ok .wired) (regsOf net) r q same) ∙ sym y in (
+        says,
+        w .buffer ∙ ap₂ (λ a n. holds a (textOf n) out) says net′ ∙ sym (x .buffer),
+        w .table ∙ ap₂ (λ a k. holds a k lags) says (rows-same r q (net .nodes) same) ∙ sym (x .table),
       )
 
   pub one-end : (i : ℕ) → End t out lags s out′ lags′ net i → End t out lags s″ out″ lags″ net i → (s ≡ s″) × (out′ ≡ out″) × (lags′ ≡ lags″)
@@ -193,4 +203,4 @@ module _ (net : Netlist) (ok : Sound gate (graphOf net) (regsOf net)) (t out : L
   one-end (suc (suc zero)) (r, l, e, w, u) (q, m, i, x, v) = untouched-alike (ap (edge 9) (lowest-one net ok r q l m e i w x)) u v
   one-end (suc (suc (suc zero))) u v = untouched-alike refl u v
   one-end (suc (suc (suc (suc zero)))) u v = untouched-alike refl u v
-  one-end (suc (suc (suc (suc (suc n))))) (r, l, narrow, c, b, w) (q, m, narrow′, d, o, x) = written-alike r q l m c d b o w x
+  one-end (suc (suc (suc (suc (suc n))))) u v = moved-one u v

@@ -5,7 +5,7 @@ pub mod Moved
 pub mod Outcome
 -- Each number is given exactly when its fact holds and no earlier one does, and a refusal leaves all that was lent: refusal-facts, unread-fact, nothing-touched.
 pub mod Refusals
--- Demand 3: demand-follows.
+-- Demand 3, and the bounds on lags: demand-follows, lags-fit.
 pub mod Demand
 -- The cards as texts, and demand 3 of card A: cards-hold, demand-asks.
 pub mod Cards

@@ -5,6 +5,7 @@
 --   cards               the cards
 --   CardsHold, DemandAsks    what is to be proved of them
 -- Assumes nothing.
+use mathlib.Core.Path.{_≡_}
 use mathlib.Core.List.{List, [], _∷_, _++_}
 use Prim.Native.Nat.{ℕ, _<_, _≤_}
 use Prim.Native.Char.{code}
@@ -15,9 +16,8 @@ use Rattle.netlist.specs.declared.Netlist.{Netlist}
 use Rattle.netlist.specs.Answer.{Says, value, whole, edge}
 use Rattle.netlist.specs.Read.{Reads}
 use Rattle.simulate.specs.Run.{Runs}
-use Rattle.retime.specs.Retime.{Retimes}
+use Rattle.retime.specs.Retime.{Room, Retimes}
 use Rattle.retime.specs.Demand.{Asked, ComesBack, tableLag, Came}
-use Rattle.retime.specs.Theorems.{Enough}
 
 unfoldable pub bytes : String → List ℕ
 bytes end = []
@@ -41,9 +41,9 @@ pub record Card : Type 0 where
   pub result : Result
 
 abbrev pub ClaimOf : List ℕ → Result → Type 0
-ClaimOf t (back new r chosen) = (net : Netlist) × Reads t (value 0) net
-    × ((out : List ℕ) (lags : List ℤ) → Enough t out lags net → Retimes t out lags (value chosen) (new ++ drop (length t) out) (r ++ drop (length r) lags))
-ClaimOf t (refuses s) = (net : Netlist) × Reads t (value 0) net × ((out : List ℕ) (lags : List ℤ) → Enough t out lags net → Retimes t out lags s out lags)
+ClaimOf t (back new r chosen) = (net : Netlist) × Reads t (value 0) net × (length r ≡ net .nodes)
+    × ((out : List ℕ) (lags : List ℤ) → Room t out lags net → Retimes t out lags (value chosen) (new ++ drop (length new) out) (r ++ drop (length r) lags))
+ClaimOf t (refuses s) = (net : Netlist) × Reads t (value 0) net × ((out : List ℕ) (lags : List ℤ) → Room t out lags net → Retimes t out lags s out lags)
 ClaimOf t (runs vectors outputs) = (old : List ℕ) → length outputs ≤ length old → Runs t vectors old (value (length outputs)) (outputs ++ drop (length outputs) old)
 
 abbrev pub Claim : Card → Type 0

@@ -1,14 +1,21 @@
 -- Demand 3, of one call of `retime`: its text t, the buffer and the table that were lent, what it said, and what they hold in the end.
+--   Startable net       some legal retiming meets the period and carries the start
+--   Asked               what the demand is about
+--   ComesBack s         a retimed netlist comes back
+--   tableLag lags       the lags that the table gives
+--   Came                what is owed of what came back
+--   Demand3             the demand
 -- Assumes nothing.
 use mathlib.Core.Path.{_≡_}
 use mathlib.Core.Logic.{_↔_}
 use mathlib.Core.List.{List}
-use Prim.Native.Nat.{ℕ, _≤_}
+use Prim.Native.Nat.{ℕ}
 use lib.IntN.{ℤ, pos}
 use lib.ListN.{length, getD, take}
+use Rattle.theory.specs.Clock.{Trace}
 use Rattle.theory.specs.Gate.{gate}
-use Rattle.theory.specs.Move.{Best}
-use Rattle.theory.specs.Retimer.{Possible, Narrow, TooMany}
+use Rattle.theory.specs.Move.{Moved, Carries, choiceOf}
+use Rattle.theory.specs.Retimer.{Possible}
 use Rattle.netlist.specs.declared.Netlist.{Netlist}
 use Rattle.netlist.specs.Answer.{Says, value}
 use Rattle.netlist.specs.Net.{graphOf, regsOf, delayOf}
@@ -16,7 +23,7 @@ use Rattle.netlist.specs.Read.{Reads}
 use Rattle.netlist.specs.Write.{textOf}
 use Rattle.simulate.specs.Run.{Runs}
 use Rattle.moves.specs.Moved.{movedNet}
-use Rattle.retime.specs.Retime.{LeastLags}
+use Rattle.retime.specs.Retime.{LeastLags, NarrowAt, ManyAt, BestAt, Room}
 
 -- "some legal retiming meets the period and carries the start": any lags, any counts, any choice of bits.
 abbrev pub Startable : Netlist → Type 0
@@ -26,33 +33,36 @@ Startable net = Possible gate (graphOf net) (regsOf net) (delayOf net) (net .per
 -- Leave out only those whose least retiming puts over 32 registers on an edge or needs over 24 start values chosen."
 pub record Asked (t out : List ℕ) (lags : List ℤ) (net : Netlist) : Type 0 where
   pub reads : Reads t (value 0) net
-  pub text-room : length t ≤ length out
-  pub lag-room : net .nodes ≤ length lags
-  pub few : (r : ℕ → ℤ) → LeastLags net r → Narrow (graphOf net) (regsOf net .count) r × ¬ TooMany (graphOf net) (regsOf net .count) r
+  pub room : Room t out lags net
+  pub few : (r : ℕ → ℤ) → LeastLags net r → NarrowAt net r × ¬ ManyAt net r
 
 -- "a retimed netlist comes back when retiming isn't refused."
 abbrev pub ComesBack : Says → Type 0
 ComesBack s = (k : ℕ) × (s ≡ value k)
 
--- The lags that the table gives, and the new text that the buffer gives.
 abbrev pub tableLag : List ℤ → ℕ → ℤ
 tableLag lags v = getD lags v (pos 0)
 
--- What came back.
+-- What came back: the new text, and the lags r.
 pub record Came (t : List ℕ) (net : Netlist) (new : List ℕ) (r : ℕ → ℤ) : Type 0 where
   -- "Its lags are legal, meet the period, and are at every node at most those of every other legal retiming that meets it."
   pub least : LeastLags net r
-  -- "It is the original moved by its lags as document 01 says, with the start taken there."
+  -- "It is the original moved by its lags as document 01 says, with the start taken there": the text of the moved netlist, which reads.
   pub number : ℕ
-  pub start : Best gate (graphOf net) (regsOf net) r number
+  pub start : BestAt net r number
   pub moved : new ≡ textOf (movedNet net r number)
   pub reads : Reads new (value 0) (movedNet net r number)
+  -- Its registers are those of the paper's three cases (chosen, old, u's value in the original): "It depends on no input", so whatever inputs the original runs on.
+  pub registers : (ins x : ℕ → ℕ → ℕ) → Trace gate (graphOf net) (regsOf net) ins x
+      → Moved (graphOf net) (regsOf net) (regsOf (movedNet net r number)) r (choiceOf (graphOf net) (regsOf net .count) r number) x
+  -- Its start is carried: the nodes of the new netlist give the old values, "where no input bears on it", so whatever inputs the new netlist runs on.
+  pub carries : (ins y : ℕ → ℕ → ℕ) → Trace gate (graphOf net) (regsOf (movedNet net r number)) ins y → Carries (graphOf net) (regsOf net) r y
   -- "For every list of input vectors, refused lists included, running the original and running the retimed netlist … give the same answer and the same outputs at every clock."
-  -- "The original text and the new text are run on the same vector bytes, into buffers of equal length and content."
-  pub runs : (vectors buffer : List ℕ) → (s : Says) × (after : List ℕ) × Runs t vectors buffer s after
+  -- "The original text and the new text are run on the same vector bytes, into buffers of equal length and content." (Every run has an outcome, and one only: simulate's `SomeRun`, `OneRun`.)
   pub same-runs : (vectors buffer : List ℕ) (s : Says) (after : List ℕ) → Runs t vectors buffer s after ↔ Runs new vectors buffer s after
 
 pub record Demand3 (t out : List ℕ) (lags : List ℤ) (s : Says) (out′ : List ℕ) (lags′ : List ℤ) : Type 0 where
   -- "A retimed netlist comes back exactly when some legal retiming meets the period and carries the start."
   pub exactly : (net : Netlist) → Asked t out lags net → (ComesBack s ↔ Startable net)
-  pub came : (net : Netlist) → Asked t out lags net → ComesBack s → Came t net (take (length t) out′) (tableLag lags′)
+  -- What comes back needs no such limit: it was within them.
+  pub came : (net : Netlist) → Reads t (value 0) net → ComesBack s → Came t net (take (length t) out′) (tableLag lags′)

@@ -3,5 +3,3 @@ pub mod Retime
 pub mod Demand
 pub mod Theorems
 pub mod Card
--- Inside: what is said of a netlist and its least lags.
-pub mod Moves

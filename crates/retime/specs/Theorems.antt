@@ -4,24 +4,23 @@
 --   RefusalFacts, UnreadFact  each number is given exactly when its fact holds and no earlier one does
 --   NothingTouched            a refusal leaves all that was lent
 --   DemandFollows             demand 3 follows from the outcome
+--   LagsFit                   two bytes hold every lag that comes back
 -- Assumes nothing.
 use mathlib.Core.Path.{_≡_}
-use mathlib.Core.Logic.{_↔_, _⊎_}
+use mathlib.Core.Logic.{_↔_}
 use mathlib.Core.List.{List}
 use Prim.Native.Nat.{ℕ, _<_, _≤_}
 use lib.IntN.{ℤ}
 use lib.ListN.{length}
-use Rattle.theory.specs.Gate.{gate}
-use Rattle.theory.specs.Lag.{Legal}
-use Rattle.theory.specs.Retimer.{NoRetiming, TooWide, Narrow, TooMany, NoStart}
+use Rattle.theory.specs.Lag.{up, down, Legal}
 use Rattle.netlist.specs.declared.Netlist.{Netlist}
 use Rattle.netlist.specs.Answer.{Says, value, refused, whole, edge}
-use Rattle.netlist.specs.Net.{graphOf, regsOf, delayOf}
+use Rattle.netlist.specs.Net.{graphOf, regsOf}
 use Rattle.netlist.specs.Read.{Reads}
 use Rattle.netlist.specs.Write.{textOf}
-use Rattle.retime.specs.Retime.{LeastLags, Retimes}
+use Rattle.retime.specs.Retime.{NoneMeets, LeastLags, WideAt, NarrowAt, ManyAt, StartlessAt, Room, Short, Retimes}
 use Rattle.moves.specs.Moved.{movedNet}
-use Rattle.retime.specs.Demand.{Demand3}
+use Rattle.retime.specs.Demand.{ComesBack, tableLag, Demand3}
 
 -- "a buffer for the new text (same length)": the moved netlist's text is as long as the original's.
 abbrev pub SameLength : Type 0
@@ -30,7 +29,7 @@ SameLength = (t : List ℕ) (net : Netlist) (r : ℕ → ℤ) (c : ℕ) → Read
 -- The new text reads, whatever the choice, and gives the moved netlist back.
 abbrev pub MovedReads : Type 0
 MovedReads = (t : List ℕ) (net : Netlist) (r : ℕ → ℤ) (c : ℕ) → Reads t (value 0) net
-    → Legal (graphOf net) (regsOf net .count) r → Narrow (graphOf net) (regsOf net .count) r
+    → Legal (graphOf net) (regsOf net .count) r → NarrowAt net r
     → Reads (textOf (movedNet net r c)) (value 0) (movedNet net r c)
 
 -- Every call has an outcome, and one only.
@@ -41,19 +40,13 @@ abbrev pub OneOutcome : Type 0
 OneOutcome = (t out : List ℕ) (lags : List ℤ) (s s″ : Says) (out′ out″ : List ℕ) (lags′ lags″ : List ℤ)
     → Retimes t out lags s out′ lags′ → Retimes t out lags s″ out″ lags″ → (s ≡ s″) × (out′ ≡ out″) × (lags′ ≡ lags″)
 
--- The buffers are long enough.
-abbrev pub Enough : List ℕ → List ℕ → List ℤ → Netlist → Type 0
-Enough t out lags net = (length t ≤ length out) × (net .nodes ≤ length lags)
-
 -- Each number is given exactly when its fact holds and no earlier one does.
 pub record RetimeFacts (t out : List ℕ) (lags : List ℤ) (s : Says) (net : Netlist) : Type 0 where
-  pub twelve : (s ≡ whole 12) ↔ ((length out < length t) ⊎ (length lags < net .nodes))
-  pub eight : Enough t out lags net → (s ≡ whole 8) ↔ NoRetiming (graphOf net) (regsOf net .count) (delayOf net) (net .period)
-  pub nine : Enough t out lags net → (r : ℕ → ℤ) → LeastLags net r → (e : ℕ) → (s ≡ edge 9 e) ↔ TooWide (graphOf net) (regsOf net .count) r e
-  pub ten : Enough t out lags net → (r : ℕ → ℤ) → LeastLags net r
-      → (s ≡ whole 10) ↔ (Narrow (graphOf net) (regsOf net .count) r × TooMany (graphOf net) (regsOf net .count) r)
-  pub eleven : Enough t out lags net → (r : ℕ → ℤ) → LeastLags net r → Narrow (graphOf net) (regsOf net .count) r → ¬ TooMany (graphOf net) (regsOf net .count) r
-      → (s ≡ whole 11) ↔ NoStart gate (graphOf net) (regsOf net) r
+  pub twelve : (s ≡ whole 12) ↔ Short t out lags net
+  pub eight : Room t out lags net → (s ≡ whole 8) ↔ NoneMeets net
+  pub nine : Room t out lags net → (r : ℕ → ℤ) → LeastLags net r → (e : ℕ) → (s ≡ edge 9 e) ↔ WideAt net r e
+  pub ten : Room t out lags net → (r : ℕ → ℤ) → LeastLags net r → (s ≡ whole 10) ↔ (NarrowAt net r × ManyAt net r)
+  pub eleven : Room t out lags net → (r : ℕ → ℤ) → LeastLags net r → NarrowAt net r → ¬ ManyAt net r → (s ≡ whole 11) ↔ StartlessAt net r
 
 abbrev pub RefusalFacts : Type 0
 RefusalFacts = (t out : List ℕ) (lags : List ℤ) (s : Says) (out′ : List ℕ) (lags′ : List ℤ) (net : Netlist)
@@ -72,3 +65,8 @@ NothingTouched = (t out : List ℕ) (lags : List ℤ) (s : Says) (out′ : List 
 -- Demand 3 follows from the outcome: mathematics, no code.
 abbrev pub DemandFollows : Type 0
 DemandFollows = (t out : List ℕ) (lags : List ℤ) (s : Says) (out′ : List ℕ) (lags′ : List ℤ) → Retimes t out lags s out′ lags′ → Demand3 t out lags s out′ lags′
+
+-- No lag that comes back is above 24 or below −16,352 (511 edges of 32 registers), so "lag (2, two's complement)" holds it.
+abbrev pub LagsFit : Type 0
+LagsFit = (t out : List ℕ) (lags : List ℤ) (s : Says) (out′ : List ℕ) (lags′ : List ℤ) (net : Netlist) → Reads t (value 0) net
+    → Retimes t out lags s out′ lags′ → ComesBack s → (v : ℕ) → v < net .nodes → (up (tableLag lags′ v) ≤ 24) × (down (tableLag lags′ v) ≤ 16352)

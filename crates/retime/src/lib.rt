@@ -21,14 +21,13 @@ ghost use Rattle.netlist.specs.Write.{joined};
 ghost use Rattle.simulate.specs.Ran.{Steppable};
 ghost use Rattle.lags.specs.Lags.{lagOf, Sure};
 ghost use Rattle.moves.specs.Labels.{lagsOf, Labelled};
-ghost use Rattle.retime.specs.Moves.{Moves};
-ghost use Rattle.retime.specs.Retime.{Retimes, LagsFit};
+ghost use Rattle.retime.specs.Retime.{Moves, Retimes};
 ghost use Rattle.retime.specs.Demand.{Demand3};
 
 // A moved netlist, with how many start values were chosen; or a refusal.
-pub struct Retimed {
-    pub answer: Answer,
-    pub net: Netlist,
+struct Retimed {
+    answer: Answer,
+    net: Netlist,
 }
 
 // A netlist moved by its least labels: 9, 10 or 11, or the moved netlist.
@@ -92,7 +91,6 @@ fn put_lags(lab: &[u32], nodes: usize, lags: &mut [i32])
 pub fn retime(text: &[u8], out: &mut [u8], lags: &mut [i32]) -> Answer
     ensures { λ r. ⌜ Retimes (now (text .entry)) (now (out .entry)) (now (lags .entry)) (says r) (now (out .exit)) (now (lags .exit)) ⌝ }
     ensures { λ r. ⌜ Demand3 (now (text .entry)) (now (out .entry)) (now (lags .entry)) (says r) (now (out .exit)) (now (lags .exit)) ⌝ }
-    ensures { λ r. ⌜ LagsFit (now (text .entry)) (says r) (now (lags .exit)) ⌝ }
 {
     let reading = netlist::read(text);
     let a = reading.answer;

@@ -2,6 +2,7 @@
 --   refusal-line, refusal-length    the bytes of a refusal's line
 --   rewrites-stop, rewrites-done    a text that is refused, a text that reads
 --   rereads-text, rereads-refusal   what is printed in the two cases
+--   line-fits           what is printed is in the buffer
 --   counted             so many bytes as a buffer has can be taken from its front
 -- Assumes nothing.
 use Prim.Native.Nat.{ℕ, _+_, _/_, _%_, _≤_}
@@ -9,8 +10,8 @@ use mathlib.Core.Path.{_≡_, refl, ap, ap₂, sym, _∙_, subst}
 use mathlib.Core.Bool.{Bool, true, false, cond}
 use mathlib.Core.List.{List, [], _∷_}
 use native.Mathlib.Omega.{arith}
-use borrow.Author.Tests.{le-leb, leb-true, ltb-false}
-use lib.Dec.{ltb, leb}
+use borrow.Author.Tests.{le-leb, leb-true}
+use lib.Dec.{leb}
 use lib.ListN.{length}
 use lib.Seq.{sets-eq, length-take-le}
 use Rattle.io.specs.Counts.{Counts}
@@ -22,14 +23,14 @@ use Rattle.netlist.specs.declared.Place.{Place}
 use Rattle.netlist.specs.declared.Place.the-variants.{Whole, Line, Node, Edge}
 use Rattle.netlist.specs.declared.Answer.{Answer}
 use Rattle.netlist.specs.declared.Answer.the-variants.{Done, Refused}
-use Rattle.netlist.specs.Answer.{Says, value, refused, says, whole, andThen, needs, holds}
+use Rattle.netlist.specs.Answer.{Says, value, says, andThen, needs, holds}
 use Rattle.netlist.specs.Read.{Reads}
 use Rattle.netlist.specs.Write.{textOf, Writes}
-use Rattle.netlist.proofs.Fits.{clash}
 use Rattle.netlist.proofs.Answered.{stands}
 use Rattle.netlist.proofs.theorems.One.{one-reading}
 use Rattle.netlist.proofs.theorems.Lines.{lines-fact}
 use Rattle.netlist.proofs.theorems.Sound.{reads-value}
+use Rattle.netlist.proofs.theorems.RoundTrip.{all-written}
 use Rattle.show.specs.Shown.{refusalLine, lineIn, Rewrites, shown, Rereads}
 use Rattle.show.specs.Places.{placeKind, placeNumber}
 
@@ -75,23 +76,14 @@ rewrites-done t old a net s new {n} e r w =
       buffer = w .buffer ∙ ap (λ y. holds s y old) (sym q);
     }
 
--- A number is given where there is room, and is the number of bytes.
-room : (c : Says) (n m k : ℕ) → value k ≡ andThen c (needs n m) → (k ≡ n) × (n ≤ m)
-room (value i) n m k q = go (ltb m n) refl q
-  where
-    go : (b : Bool) → ltb m n ≡ b → value k ≡ cond b (whole 12) (value n) → (k ≡ n) × (n ≤ m)
-    go true e p = clash (cc)
-    go false e p = (cc, ltb-false m n e)
-room (refused a b c) n m k q = clash (cc)
-
 pub rereads-text : (t old new : List ℕ) (a : Answer) (n : ℕ) → a ≡ Done n → Rewrites t old (says a) new → Rereads t old n new × Counts n new
 rereads-text t old new a n e w =
     let s = ap says e in
-    let r = room (w .said) (length t) (length old) n (sym s ∙ w .answer) in
+    let r = all-written (w .said) (length t) (length old) n (sym s ∙ w .answer) in
     let k : 0 + length t ≡ length t = omega arith in
-    let b : new ≡ placed old 0 t = w .buffer ∙ rw (s, placed-room old 0 t (omega (arith, r .1)), sets-eq t old 0 (omega (arith, r .1)), k) in (
-      record { said = says a; mid = new; rewrites = w; result = rw (s, le-leb (length t) (length old) (r .1)) (r .0); buffer = rw s b },
-      counted n new (omega (arith, r .0, r .1, ap length b, length-placed old 0 t)),
+    let b : new ≡ placed old 0 t = w .buffer ∙ rw (s, placed-room old 0 t (omega (arith, r .3)), sets-eq t old 0 (omega (arith, r .3)), k) in (
+      record { said = says a; mid = new; rewrites = w; result = rw (s, le-leb (length t) (length old) (r .3)) (r .2); buffer = rw s b },
+      counted n new (omega (arith, r .2, r .3, ap length b, length-placed old 0 t)),
     )
 
 shown-refused : (q : ℕ) (p : Place) (t : List ℕ) → shown (says (Refused q p)) t ≡ refusalLine (says (Refused q p))
@@ -100,7 +92,7 @@ shown-refused q (Line l) t = refl
 shown-refused q (Node v) t = refl
 shown-refused q (Edge e) t = refl
 
-line-fits : (line old : List ℕ) → lineIn line old ≤ length old
+pub line-fits : (line old : List ℕ) → lineIn line old ≤ length old
 line-fits line old = go (leb (length line) (length old)) refl
   where
     go : (b : Bool) → leb (length line) (length old) ≡ b → cond b (length line) 0 ≤ length old

@@ -1,6 +1,5 @@
 // What the programs print of a call's answer.
 ghost use mathlib.Core.Path.{_≡_};
-ghost use lib.ListN.{length};
 ghost use Rattle.frame.specs.Decoded.{placed};
 ghost use Rattle.io.specs.Counts.{Counts};
 ghost use Rattle.netlist.specs.Answer.{says};

@@ -5,7 +5,6 @@
 --   start-fits          the start values are such words
 --   after-in, after-out, after-past    the words after a clock: the first E, and the others
 --   value-input, value-gate   the values fit the inputs and the gates
---   value-only          and nothing else does
 --   value-bit           they are bits
 --   value-same, output-same, after-same    they look at the first E words only
 --   fits-after          a clock leaves words that fit
@@ -30,7 +29,7 @@ use Rattle.theory.specs.Gate.{gate}
 use Rattle.theory.proofs.clocks.Seen.{gather-same}
 use Rattle.theory.proofs.clocks.Trace.{unique}
 use Rattle.theory.proofs.clocks.Value.{value-trace}
-use Rattle.theory.proofs.clocks.Step.{shows-first, clock-values}
+use Rattle.theory.proofs.clocks.Step.{shows-first}
 use Rattle.theory.proofs.clocks.Gate.{gate-bit}
 use Rattle.netlist.specs.declared.Netlist.{Netlist}
 use Rattle.graph.specs.Columns.{bit}
@@ -120,13 +119,6 @@ module _ (net : Netlist) (wired : Wired (graphOf net)) (no-loop : ¬ Loop (graph
     value-gate v h q =
         at-zero .at-gate v 0 h q
         ∙ ap (gate (graphOf net .kind v)) (gather-same (graphOf net .dst) _ _ v (net .edges) (λ e l d. shows-first (graphOf net) (regsOf net) (bitsOf words) _ e))
-
-    -- By the theory's induction on a clock: a node's value is fixed once those of its sources without a register are.
-    pub value-only : (x : ℕ → ℕ) → ((v : ℕ) → v < net .nodes → graphOf net .kind v ≡ 0 → x v ≡ byteOf net vector v)
-        → ((v : ℕ) → v < net .nodes → ¬ (graphOf net .kind v ≡ 0) → x v ≡ gate (graphOf net .kind v) (gather (graphOf net .dst) (shown net words x) v (net .edges)))
-        → (v : ℕ) → v < net .nodes → x v ≡ values net words vector v
-    unfolding values
-    value-only x at-input at-gate = clock-values gate (graphOf net) wired (regsOf net) no-loop (bitsOf words) (byteOf net vector) x at-input at-gate
 
     pub value-bit : bits vector ≡ true → (v : ℕ) → v < net .nodes → values net words vector v ≤ 1
     value-bit b v h = go (ℕ-discrete (graphOf net .kind v) 0)

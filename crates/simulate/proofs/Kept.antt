@@ -1,5 +1,4 @@
 -- Lists that the functions of a plan fill from the front.
---   fill-with           one element further, whatever is said of each
 --   kept-none           no place of the order yet
 --   kept-hit            one place further: its node is put at the end
 --   kept-miss           one place further: an input is left out
@@ -15,14 +14,6 @@ use lib.Seq.{getD-set-same, getD-set-other}
 use Rattle.graph.specs.Columns.{at}
 use Rattle.graph.specs.Sort.{Stands}
 use Rattle.simulate.specs.Parts.{Kept, KeptAt}
-
-pub fill-with : (P : ℕ → ℕ → Type 0) (xs : List ℕ) (v t : ℕ) → v < length xs → P v t → ((k : ℕ) → k < v → P k (at xs k))
-    → (k : ℕ) → k < v + 1 → P k (at (set xs v t) k)
-fill-with P xs v t h p w k l = go (ℕ-discrete k v)
-  where
-    go : Dec (k ≡ v) → P k (at (set xs v t) k)
-    go (yes z) = subst (λ x. P x (at (set xs v t) x)) (sym z) (subst (P v) (sym (getD-set-same xs v t 0 h)) p)
-    go (no z) = subst (P k) (sym (getD-set-other xs v k t 0 z)) (w k (omega arith))
 
 -- A store at n changes nothing below n.
 set-stands : (xs : List ℕ) (n x m i : ℕ) → m ≤ n → Stands xs m i → Stands (set xs n x) m i

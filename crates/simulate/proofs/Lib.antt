@@ -1,13 +1,11 @@
 -- The laws of clocks, from the ground up.
--- Words that move on; what is gathered and joined; the gates, as the paper says them.
+-- Words that move on; what is gathered and joined.
 pub mod Words
 pub mod Lists
-pub mod GateLaws
 -- One clock by equations; what is said of steps and runs that are not refused.
 pub mod Clock
 pub mod Says
--- The plan: a word built bit by bit; the nodes of an order that are no inputs; the edges sorted by the node that they enter; the plan, from its parts.
-pub mod Spelt
+-- The plan: the nodes of an order that are no inputs; the edges sorted by the node that they enter; the plan, from its parts.
 pub mod Kept
 pub mod Seen
 pub mod Plans

@@ -1,6 +1,7 @@
 -- Lists that are gathered or joined, and lists of bits.
 --   gather-hit, gather-miss    one more, of the kind or not
 --   gather-like         what is gathered depends on what is looked at
+--   gather-map          what is gathered, through a function
 --   gather-length       how many are gathered does not depend on what is gathered of each
 --   before-hit, before-miss    how many of a kind stand before the next node
 --   before-less         a node of the kind has a place among all of that kind
@@ -13,9 +14,9 @@ use Prim.Native.Nat.{ℕ, zero, suc, _+_, _-_, _<_, _≤_}
 use native.Mathlib.Omega.{arith}
 use native.Mathlib.Decide.{ℕ-discrete}
 use mathlib.Core.Path.{_≡_, refl, sym, ap, ap₂, _∙_}
-use mathlib.Core.Bool.{true}
-use mathlib.Core.List.{List, [], _∷_, _++_, append-assoc, append-nil}
-use lib.Dec.{leb}
+use mathlib.Core.Bool.{Bool, true, false}
+use mathlib.Core.List.{List, [], _∷_, _++_, map, append-assoc, append-nil, map-append}
+use lib.Dec.{eqb, leb}
 use lib.ListN.{length, getD, take, drop, length-append, List·getD-append}
 use lib.Seq.{getD-at, drop-append-add, drop-drop}
 use borrow.Author.Tests.{leb-true, le-leb, eq-eqb, ne-eqb}
@@ -49,6 +50,15 @@ gather-like kind kind′ f g k (suc n) a b = go (ℕ-discrete (kind n) k) (gathe
     go : Dec (kind n ≡ k) → gather kind f k n ≡ gather kind′ g k n → gather kind f k (suc n) ≡ gather kind′ g k (suc n)
     go (yes q) e = gather-hit kind f k n q ∙ ap₂ (λ l x. l ++ (x ∷ [])) e (b n (omega arith) q) ∙ sym (gather-hit kind′ g k n (sym (a n (omega arith)) ∙ q))
     go (no q) e = gather-miss kind f k n q ∙ e ∙ sym (gather-miss kind′ g k n (λ p. q (a n (omega arith) ∙ p)))
+
+pub gather-map : (g dst f : ℕ → ℕ) (v n : ℕ) → map g (gather dst f v n) ≡ gather dst (λ e. g (f e)) v n
+unfolding gather only
+gather-map g dst f v zero = refl
+gather-map g dst f v (suc n) = map-append g (gather dst f v n) (only (eqb (dst n) v) f n) ∙ ap₂ _++_ (gather-map g dst f v n) (last (eqb (dst n) v))
+  where
+    last : (b : Bool) → map g (only b f n) ≡ only b (λ e. g (f e)) n
+    last true = refl
+    last false = refl
 
 pub gather-length : (kind f g : ℕ → ℕ) (k n : ℕ) → length (gather kind f k n) ≡ length (gather kind g k n)
 unfolding gather

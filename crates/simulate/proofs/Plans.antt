@@ -4,20 +4,19 @@
 --   fan-low             no node sees more than 8 signals
 --   planned             the parts make a plan
 -- Assumes nothing.
-use Prim.Native.Nat.{ℕ, suc, _+_, _≤_, _<_}
+use Prim.Native.Nat.{ℕ, suc, _+_, _-_, _≤_, _<_}
 use native.Mathlib.Omega.{arith}
 use native.Mathlib.Decide.{ℕ-discrete}
 use mathlib.Core.Path.{_≡_, refl, sym, subst, ap, _∙_}
 use mathlib.Core.Logic.{_⊎_, inl, inr}
 use mathlib.Core.Bool.{Bool, true, false, cond}
 use mathlib.Core.List.{List}
-use lib.Count.{ones}
 use lib.Dec.{ltb}
 use lib.ListN.{length}
 use Rattle.theory.specs.Walk.{Walk, one, more, registers, steps, Loop}
-use Rattle.theory.specs.Gate.{gateBy}
-use Rattle.graph.specs.Columns.{at, graph, fan-in, bit}
+use Rattle.graph.specs.Columns.{at, graph, fan-in}
 use Rattle.graph.specs.Sort.{Sorts, Ordered}
+use Rattle.gates.specs.Gates.{Reckons, Table}
 use Rattle.netlist.specs.declared.Netlist.{Netlist}
 use Rattle.netlist.specs.Net.{graphOf}
 use Rattle.rules.specs.Rules.{ruleOf}
@@ -28,8 +27,8 @@ use Rattle.netlist.proofs.Fits.{node-fits}
 use Rattle.netlist.proofs.Lowest.{few}
 use Rattle.simulate.specs.declared.plan.Plan.{Plan}
 use Rattle.simulate.specs.Plan.{signal, Planned}
-use Rattle.simulate.specs.Parts.{Truth, Kept, seen}
-use Rattle.simulate.proofs.Seen.{ins-edge, first-rises, first-low, seen-count, seen-signals}
+use Rattle.simulate.specs.Parts.{Kept}
+use Rattle.simulate.proofs.Seen.{ins-edge, first-rises, first-low, seen-signals}
 
 -- ── Loops ───────────────────────────────────────────────────────────────────────────────────
 
@@ -87,9 +86,9 @@ module _ (net : Netlist) (p : Plan) (f : Fit net) (order : List ℕ) (o : Ordere
 
   pub planned : {old ins : List ℕ} → net .edges ≤ length old → Sorts (net .to) (net .edges) (net .nodes) old ins (p .first)
       → net .edges ≤ length (p .sees) → ((k : ℕ) → k < net .edges → at (p .sees) k ≡ signal net (at ins k))
-      → ((v : ℕ) → v < net .nodes → Truth (at (net .kind) v) (seen (p .first) v) (at (p .truth) v))
-      → ((w : ℕ) → w < 256 → at (p .ones) w ≡ ones w) → Planned net p
-  planned {old} {ins} room s rows signals truths counts = record {
+      → ((v : ℕ) → v < net .nodes → Reckons (at (net .kind) v) (at (p .first) (suc v) - at (p .first) v) (at (p .truth) v))
+      → Table (p .index) → Planned net p
+  planned {old} {ins} room s rows signals truths table = record {
     few = omega (arith, kept .few, few net f);
     gate = gate-in;
     every = gate-every;
@@ -97,6 +96,6 @@ module _ (net : Netlist) (p : Plan) (f : Fit net) (order : List ℕ) (o : Ordere
     range = λ v h. (first-rises net f room s v h, first-low net f room s (suc v) h);
     each = λ k h. (at ins k, ins-edge net f room s k h, signals k h);
     ins = seen-signals net f room s (signal net) (p .sees) rows signals;
-    truth = λ v k h. subst (λ n. k ≤ n → bit (at (p .truth) v) k ≡ gateBy (at (net .kind) v) n k) (seen-count net f room s v h) (truths v h k);
-    counts = counts;
+    truth = truths;
+    table = table;
   }

@@ -5,32 +5,22 @@
 --   seen-count          a node's part is as long as its fan-in
 --   seen-signals        the signals of a node's part, in the order of the edges
 -- Assumes nothing.
-use Prim.Native.Nat.{ℕ, zero, suc, _+_, _≤_, _<_}
+use Prim.Native.Nat.{ℕ, zero, suc, _+_, _-_, _≤_, _<_}
 use native.Mathlib.Omega.{arith}
 use mathlib.Core.Path.{_≡_, refl, ap, ap₂, _∙_}
-use mathlib.Core.Bool.{Bool, true, false}
-use mathlib.Core.List.{List, _∷_, _++_, map, map-append}
+use mathlib.Core.List.{List, _∷_, map}
 use lib.ListN.{length, take, drop, length-append}
-use lib.Dec.{eqb}
 use lib.Seq.{drop-cons}
-use Rattle.theory.specs.Clock.{gather, only}
+use Rattle.theory.specs.Clock.{gather}
 use Rattle.graph.specs.Columns.{at, fan-in}
 use Rattle.graph.specs.Sort.{group, sorted, Sorts}
 use Rattle.graph.proofs.Sorted.{sorted-place, sorted-grows, sorted-part, sorted-room, sorted-length, sets-at}
+use Rattle.gates.specs.Gates.{part}
 use Rattle.netlist.specs.declared.Netlist.{Netlist}
 use Rattle.netlist.specs.Net.{graphOf}
 use Rattle.netlist.specs.Theorems.{Fit}
 use Rattle.netlist.proofs.Run.{fit-wired}
-use Rattle.simulate.specs.Parts.{seen}
-
-gather-map : (dst f : ℕ → ℕ) (v n : ℕ) → map f (gather dst (λ e. e) v n) ≡ gather dst f v n
-unfolding gather only
-gather-map dst f v zero = refl
-gather-map dst f v (suc n) = rw map-append (ap₂ _++_ (gather-map dst f v n) (last (eqb (dst n) v)))
-  where
-    last : (b : Bool) → map f (only b (λ e. e) n) ≡ only b f n
-    last true = refl
-    last false = refl
+use Rattle.simulate.proofs.Lists.{gather-map}
 
 pub part-map : (f : ℕ → ℕ) (xs ys : List ℕ) (n b : ℕ) → b + n ≤ length xs → b + n ≤ length ys → ((k : ℕ) → k < b + n → at ys k ≡ f (at xs k))
     → take n (drop b ys) ≡ map f (take n (drop b xs))
@@ -55,17 +45,18 @@ module _ (net : Netlist) (f : Fit net) {old ins first : List ℕ} (room : net .e
   pub first-low : (v : ℕ) → v ≤ net .nodes → at first v ≤ net .edges
   first-low v h = omega (arith, s .begins v h, sorted-room (net .to) (net .edges) v)
 
-  pub seen-count : (v : ℕ) → v < net .nodes → seen first v ≡ fan-in (graphOf net) v
+  pub seen-count : (v : ℕ) → v < net .nodes → at first (suc v) - at first v ≡ fan-in (graphOf net) v
   unfolding sorted
   seen-count v h =
       omega (arith, s .begins v (omega arith), s .begins (suc v) h, length-append (sorted (net .to) (net .edges) v) (group (net .to) v (net .edges)))
 
   pub seen-signals : (f : ℕ → ℕ) (sees : List ℕ) → net .edges ≤ length sees → ((k : ℕ) → k < net .edges → at sees k ≡ f (at ins k))
-      → (v : ℕ) → v < net .nodes → take (seen first v) (drop (at first v) sees) ≡ gather (at (net .to)) f v (net .edges)
+      → (v : ℕ) → v < net .nodes → part sees (at first v) (at first (suc v)) ≡ gather (at (net .to)) f v (net .edges)
   seen-signals f sees rows w v h =
-      let low : at first v + seen first v ≤ net .edges = omega (arith, first-rises v h, first-low (suc v) h) in
+      let n = at first (suc v) - at first v in
+      let low : at first v + n ≤ net .edges = omega (arith, first-rises v h, first-low (suc v) h) in
       let all = sorted (net .to) (net .edges) (net .nodes) in
-      part-map f all sees (seen first v) (at first v) (omega (arith, all-edges)) (omega arith) (λ k l. w k (omega arith) ∙ ap f (ins-at k (omega arith)))
+      part-map f all sees n (at first v) (omega (arith, all-edges)) (omega arith) (λ k l. w k (omega arith) ∙ ap f (ins-at k (omega arith)))
       ∙ ap₂ (λ n b. map f (take n (drop b all))) (seen-count v h) (s .begins v (omega arith))
       ∙ ap (map f) (sorted-part (net .to) (net .edges) v (net .nodes) h)
-      ∙ gather-map (at (net .to)) f v (net .edges)
+      ∙ gather-map f (at (net .to)) (λ e. e) v (net .edges)

@@ -1,87 +1,28 @@
 -- The loops of one clock, a turn at a time.
---   bits-set            a bit put among bits
---   ones-more, word-more    one bit more at the low end of a word
---   seen-none, seen-more    of no signal; the first signal apart
---   evaluated-more, evaluated-length, evaluated-bits    one node more; as many signals; bits
 --   shown-start, shown-more    of no edge; one edge more
 --   among-hit, among-miss, among-less    nodes of a kind, one node more
 --   Entering, entering-start, entering-hit, entering-miss    of no node; one node more, an input or not
+--   begun               the registers shown, with the inputs entered
 --   Putting, putting-start, putting-length, putting-hit, putting-miss    so for the outputs
 --   moved-start, moved-length, moved-at, moved-more    of no word; as many words; those still to be moved; one word more
 -- Assumes nothing.
-use Prim.Native.Nat.{ℕ, zero, suc, _+_, _-_, _*_, _^_, _%_, _<_, _≤_}
+use Prim.Native.Nat.{ℕ, zero, suc, _+_, _%_, _<_, _≤_}
 use native.Mathlib.Omega.{arith}
-use native.Mathlib.Nat.{pow-suc, div-one}
+use native.Mathlib.Nat.{div-one}
 use native.Mathlib.Numerals.{add-one}
-use native.Mathlib.Decide.{ℕ-discrete, decLt}
+use native.Mathlib.Decide.{ℕ-discrete}
 use mathlib.Core.Path.{_≡_, refl, sym, ap, ap₂, _∙_, subst}
-use mathlib.Core.List.{List, [], _∷_, _++_, map, append-assoc}
-use lib.Count.{ones, ones-cat}
-use lib.ListN.{length, take, drop, set, length-set, length-append, length-drop}
-use lib.Seq.{getD-set-same, getD-set-other, set-out, drop-cons, set-at, getD-drop, getD-append-add, sets, length-sets}
+use mathlib.Core.List.{List, [], _∷_, _++_, append-assoc}
+use lib.ListN.{length, drop, set, length-set, length-append, length-drop}
+use lib.Seq.{getD-set-same, getD-set-other, drop-cons, set-at, getD-drop, getD-append-add, sets, length-sets}
 use Rattle.frame.proofs.Laws.{sets-sets}
 use Rattle.theory.specs.Clock.{gather}
-use Rattle.theory.specs.Gate.{ones as total}
 use Rattle.graph.specs.Columns.{at, bit}
+use Rattle.gates.proofs.Row.{bits-set}
 use Rattle.netlist.specs.Write.{joined}
 use Rattle.simulate.specs.Clock.{moved-on}
-use Rattle.simulate.specs.Signals.{Bits, seen, signalOf, evaluated, Shown, among, Entered, moved, movedOn}
+use Rattle.simulate.specs.Signals.{among, Entered, Shown, Begun, moved, movedOn}
 use Rattle.simulate.proofs.Lists.{gather-hit, gather-miss, gather-length, rows-length}
-
-pub bits-set : (sig : List ℕ) (i x : ℕ) → x ≤ 1 → Bits sig → Bits (set sig i x)
-bits-set sig i x h b k = go (ℕ-discrete k i) (decLt i (length sig))
-  where
-    go : Dec (k ≡ i) → Dec (i < length sig) → at (set sig i x) k ≤ 1
-    go (no z) d = omega (arith, getD-set-other sig i k x 0 z, b k)
-    go (yes z) (yes l) = subst (λ n. at (set sig i x) n ≤ 1) (sym z) (omega (arith, getD-set-same sig i x 0 l))
-    go (yes z) (no l) = omega (arith, ap (λ s. at s k) (set-out sig i x (omega arith)), b k)
-
--- ── Gathering ───────────────────────────────────────────────────────────────────────────────
-
-ones-bit : (x : ℕ) → x ≤ 1 → ones x ≡ x
-unfolding ones lib.Count.onesIn
-ones-bit zero h = refl
-ones-bit (suc zero) h = refl
-ones-bit (suc (suc n)) h = absurd (omega arith)
-
-pub ones-more : (word x : ℕ) → x ≤ 1 → ones (word * 2 + x) ≡ ones word + x
-ones-more word x h = ones-cat 1 word x (omega arith) ∙ ap (λ n. ones word + n) (ones-bit x h)
-
-pub word-more : (word x n : ℕ) → word < 2 ^ n → x ≤ 1 → word * 2 + x < 2 ^ suc n
-word-more word x n h l = rw pow-suc (omega arith)
-
-module _ (sees : List ℕ) (b : ℕ) (sig : List ℕ) where
-  pub seen-none : seen sees b b sig ≡ 0
-  unfolding seen
-  seen-none = ap (λ n. total (map (at sig) (take n (drop b sees)))) (let z : b - b ≡ 0 = omega arith in z)
-
-  pub seen-more : (a : ℕ) → a < b → b ≤ length sees → seen sees a b sig ≡ at sig (at sees a) + seen sees (a + 1) b sig
-  unfolding seen
-  seen-more a h l =
-      ap₂ (λ n xs. total (map (at sig) (take n xs))) (let z : b - a ≡ suc (b - (a + 1)) = omega arith in z)
-      (drop-cons sees a 0 (omega arith) ∙ ap (λ n. at sees a ∷ drop n sees) (sym (add-one a)))
-
--- ── Evaluating ──────────────────────────────────────────────────────────────────────────────
-
-module _ (node first sees truth : List ℕ) (sig : List ℕ) where
-  pub evaluated-more : (n : ℕ) → evaluated node first sees truth (n + 1) sig
-      ≡ set (evaluated node first sees truth n sig) (at node n) (signalOf first sees truth (at node n) (evaluated node first sees truth n sig))
-  unfolding evaluated
-  evaluated-more n = rw add-one
-
-  pub evaluated-length : (n : ℕ) → length (evaluated node first sees truth n sig) ≡ length sig
-  unfolding evaluated
-  evaluated-length zero = refl
-  evaluated-length (suc n) =
-      let before = evaluated node first sees truth n sig in
-      length-set before (at node n) (signalOf first sees truth (at node n) before) ∙ evaluated-length n
-
-  pub evaluated-bits : (n : ℕ) → Bits sig → Bits (evaluated node first sees truth n sig)
-  unfolding evaluated
-  evaluated-bits zero b = b
-  evaluated-bits (suc n) b =
-      let before = evaluated node first sees truth n sig in
-      bits-set before (at node n) (signalOf first sees truth (at node n) before) (omega arith) (evaluated-bits n b)
 
 -- ── What the registers show ─────────────────────────────────────────────────────────────────
 
@@ -195,6 +136,14 @@ module _ (kind sig old : List ℕ) (at0 : ℕ) where
       place = omega (arith, s .place, among-miss kind 1 v q);
       so-far = e ∙ s .so-far ∙ rw add-one (ap (sets old at0) (sym (gather-miss (at kind) (at sig) 1 v q)));
     }
+
+-- The inputs' places are not the registers'.
+pub begun : (kind : List ℕ) (nodes : ℕ) (words : List ℕ) (edges : ℕ) (vectors : List ℕ) (at0 : ℕ) {sig mid sig′ : List ℕ} → nodes ≤ 512
+    → Entered kind nodes vectors at0 sig mid → Shown words edges mid sig′ → Begun kind nodes words edges vectors at0 sig sig′
+begun kind nodes words edges vectors at0 few e s = record {
+  enters = record { inputs = λ v h q. s .stays v (omega arith) ∙ e .inputs v h q; bits = λ b t. s .bits (e .bits b t) };
+  shows = s .shows;
+}
 
 -- ── The words ───────────────────────────────────────────────────────────────────────────────
 

@@ -1,15 +1,11 @@
 // Clocks: stepping a netlist record, and running a text. The promises are in specs/: Clock, Step, Run, Theorems.
 mod checks;
 mod clocks;
-mod gates;
 mod plan;
 mod running;
 mod stepping;
 
 use netlist::Answer;
-// For retiming, which evaluates the original. Internal: `plan_of` has `requires`.
-pub use plan::Plan;
-pub use plan::plan_of;
 pub use running::run;
 pub use stepping::step;
 pub use stepping::step_in_place;

@@ -1,33 +1,33 @@
 // The evaluation plan, made once per netlist.
-// Required: a netlist that passed the rules, which `run`, `step` and retiming check first.
-use crate::gates::ones_table;
-use crate::gates::truth_of;
+// Required: a netlist that passed the rules, which `run` and `step` check first.
+use gates::index_table;
+use gates::put_truths;
 use graph::by_rank;
 use graph::sort_by;
 use netlist::Netlist;
 ghost use mathlib.Core.Path.{_≡_};
 ghost use mathlib.Core.Bool.{cond};
-ghost use Prim.Native.Nat.{ℕ, suc, _+_, _<_, _≤_};
+ghost use Prim.Native.Nat.{ℕ, _+_, _<_, _≤_};
 ghost use lib.Dec.{eqb};
 ghost use lib.ListN.{length};
 ghost use Rattle.theory.specs.Walk.{Loop};
 ghost use Rattle.graph.specs.Columns.{at};
 ghost use Rattle.netlist.specs.Net.{graphOf, regsOf};
-ghost use Rattle.netlist.specs.Read.{FanIn};
-ghost use Rattle.netlist.specs.Read.{All};
+ghost use Rattle.netlist.specs.Read.{FanIn, All};
 ghost use Rattle.netlist.specs.Theorems.{Fit};
 ghost use Rattle.simulate.specs.Plan.{signal, Planned};
-ghost use Rattle.simulate.specs.Parts.{Truth, Kept, seen};
+ghost use Rattle.simulate.specs.Parts.{Kept};
 
-// gates: how many nodes are no inputs; node: these, in evaluation order; first: where the signals that node v sees begin, those of node v + 1 after them;
-// sees: the signals, in rising order of the edges; truth: the node's values by the number of ones; ones: the number of ones of a word.
+// gates: how many nodes are no inputs; node: these, in evaluation order; first: where the signals that node v sees begin, those of node v + 1 after
+//   them;
+// sees: the signals, in rising order of the edges; truth: its truth word; index: the table that this is read by.
 pub struct Plan {
     pub gates: usize,
     pub node: [u16; 512],
     pub first: [u16; 513],
     pub sees: [u16; 1024],
-    pub truth: [u32; 512],
-    pub ones: [u32; 256],
+    pub truth: [u16; 512],
+    pub index: [u8; 256],
 }
 
 // The nodes of an order that are no inputs, in the same order. How many.
@@ -73,21 +73,6 @@ fn signals_of(net: Netlist, ins: &[u16]) -> [u16; 1024]
     sees
 }
 
-// The truth words: node v has `first[v + 1] - first[v]` inputs.
-fn truths_of(kind: &[u8], first: &[u16], nodes: usize) -> [u32; 512]
-    requires { ⌜ (nodes ≤ length (now kind)) × (nodes < length (now first)) × (nodes ≤ 512) ⌝ }
-    requires { ⌜ ((v : ℕ) → v < nodes → (at (now kind) v < 10) × (at (now first) v ≤ at (now first) (suc v)) × (seen (now first) v ≤ 8)) ⌝ }
-    ensures { λ r. ⌜ ((v : ℕ) → v < nodes → Truth (at (now (kind .entry)) v) (seen (now (first .entry)) v) (at r v)) ⌝ }
-{
-    let mut truth = [0u32; 512];
-    let mut v = 0;
-    while v < nodes {
-        truth[v] = truth_of(kind[v], (first[v + 1] - first[v]) as u32);
-        v += 1;
-    }
-    truth
-}
-
 // The plan of a netlist that keeps the rules of its lines, and the rules 5 and 6.
 pub fn plan_of(net: Netlist) -> Plan
     requires { ⌜ Fit net ⌝ }
@@ -104,13 +89,14 @@ pub fn plan_of(net: Netlist) -> Plan
     let mut ins = [0u16; 1024];
     sort_by(&net.to, edges, nodes, &mut ins, &mut first);
     let sees = signals_of(net, &ins);
-    let truth = truths_of(&net.kind, &first, nodes);
+    let mut truth = [0u16; 512];
+    put_truths(&net.kind, &first, nodes, &mut truth);
     Plan {
         gates,
         node,
         first,
         sees,
         truth,
-        ones: ones_table(),
+        index: index_table(),
     }
 }

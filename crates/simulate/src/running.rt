@@ -4,13 +4,16 @@ ghost use Rattle.simulate.specs.Ran.{Runnable, Ran};
 ghost use Rattle.simulate.specs.Run.{Runs};
 use crate::checks::are_bits;
 use crate::checks::count_kind;
-use crate::clocks::clock;
+use crate::clocks::enter;
+use crate::clocks::leave;
 use crate::plan::plan_of;
+use gates::evaluate;
 use netlist::Answer;
 use netlist::Netlist;
 use netlist::Place;
 
 // So many clocks from these words: their outputs to the front of `out`, and the words that they leave.
+// The plan's columns are copied first: a call can borrow several fields of one record for one lifetime only, and `evaluate` has one for each column.
 pub fn clocks_of(
     net: Netlist,
     start: [u32; 1024],
@@ -27,33 +30,32 @@ pub fn clocks_of(
     let outputs = count_kind(net, 1);
     let p = plan_of(net);
     let gates = p.gates;
+    let node = p.node;
+    let first = p.first;
+    let sees = p.sees;
+    let truth = p.truth;
+    let index = p.index;
     let mut words = start;
-    let mut sig = [0u32; 1536];
-    let mut enter = 0;
-    let mut leave = 0;
+    let mut sig = [0u8; 1536];
+    let mut taken = 0;
+    let mut given = 0;
     let mut t = 0;
     while t < clocks {
-        clock(
-            &p.node,
-            &p.first,
-            &p.sees,
-            &p.truth,
-            &p.ones,
-            gates,
+        enter(&net.kind, nodes, &words, edges, vectors, taken, &mut sig);
+        evaluate(&node, &truth, &index, &first, &sees, gates, 0, &mut sig);
+        leave(
             &net.kind,
+            nodes,
             &net.from,
             &net.count,
-            nodes,
             edges,
-            vectors,
-            enter,
-            &mut sig,
+            &sig,
             &mut words,
             out,
-            leave,
+            given,
         );
-        enter += inputs;
-        leave += outputs;
+        taken += inputs;
+        given += outputs;
         t += 1;
     }
     words

@@ -1,9 +1,9 @@
--- Words built bit by bit.
-pub mod Spelt
--- Values of cells, and what they hang on.
-pub mod Values
--- Spans, cell by cell, and cells by span.
+-- Spans, cell by cell.
 pub mod Spanning
-pub mod Orders
--- The search, turn by turn.
-pub mod States
+-- New numbers, cell by cell.
+pub mod Numbering
+-- The program copied under the new numbers.
+pub mod Sums
+pub mod Renumbering
+-- The program under the new numbers gives the same.
+pub mod Programs

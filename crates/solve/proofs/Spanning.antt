@@ -1,53 +1,59 @@
 -- Spans, cell by cell.
---   reach-kept          a store at a later cell leaves what an operand hangs on
+--   reach-bit, reach-cell      what a chosen bit depends on, and what a cell does
+--   reach-kept          a store at a later cell leaves what an operand depends on
 --   spans-read          what `span_of` asks of a cell's operands
 --   spans-none, spans-more     of no cell, and of one cell more
 -- Assumes nothing.
 use Prim.Native.Nat.{ℕ, suc, _+_, _-_, _≤_, _<_}
 use native.Mathlib.Omega.{arith}
-use native.Mathlib.Decide.{ℕ-discrete}
+use native.Mathlib.Decide.{ℕ-discrete, decLt}
 use native.Mathlib.Numerals.{add-one}
 use mathlib.Core.Path.{_≡_, sym, subst, ap, _∙_}
-use mathlib.Core.Logic.{⊎-elim, _⊎_, inl, inr}
 use mathlib.Core.List.{List}
+use borrow.Author.Tests.{lt-ltb, le-ltb}
 use lib.ListN.{length, set}
 use lib.Seq.{getD-set-same, getD-set-other}
 use Rattle.graph.specs.Columns.{at}
-use Rattle.solve.specs.Parts.{reach, Most, Wired, Spans}
-use Rattle.solve.proofs.Values.{reach-bit, reach-cell}
+use Rattle.solve.specs.Parts.{reach, Most, Wired, Bits, Spans}
 
-pub spans-read : (cells k : ℕ) (first operand span : List ℕ) (i : ℕ) → Wired cells k first operand → i < cells → cells ≤ length span
+pub reach-bit : (span : List ℕ) (x : ℕ) → x < 32 → reach span x ≡ suc x
+unfolding reach
+reach-bit span x h = rw (lt-ltb x 32 h)
+
+pub reach-cell : (span : List ℕ) (x : ℕ) → 32 ≤ x → reach span x ≡ at span (x - 32)
+unfolding reach
+reach-cell span x h = rw (le-ltb x 32 h)
+
+pub spans-read : (cells : ℕ) (first operand span : List ℕ) (i : ℕ) → Wired cells first operand → i < cells → cells ≤ length span
     → (at first (i + 1) ≤ length operand) × ((j : ℕ) → at first i ≤ j → j < at first (i + 1) → 32 ≤ at operand j → at operand j - 32 < length span)
-spans-read cells k first operand span i w l rows =
-    rw (add-one i) (w .in-rows i l, λ j a b h. ⊎-elim (λ x. omega (arith, w .few-bits)) (λ x. omega arith) (w .earlier i j l a b))
+spans-read cells first operand span i w l rows = rw (add-one i) (w .in-rows i l, λ j a b h. omega (arith, w .earlier i j l a b))
 
 pub spans-none : (k : ℕ) (first operand span : List ℕ) → Spans k first operand span 0
 spans-none k first operand span = record { most = λ i h. absurd (let z : ⊥ = omega arith in z); above = λ i j h a b. absurd (let z : ⊥ = omega arith in z) }
 
-module _ (cells k : ℕ) (first operand span : List ℕ) (i r : ℕ) (w : Wired cells k first operand) (s : Spans k first operand span i) (l : i < cells)
+module _ (cells k : ℕ) (first operand span : List ℕ) (i r : ℕ) (w : Wired cells first operand) (bits : Bits cells k first operand) (s : Spans k first operand span i) (l : i < cells)
     (rows : cells ≤ length span) (t : Most operand span (at first i) (at first (i + 1)) r) where
   m : Most operand span (at first i) (at first (suc i)) r
   m = rw (add-one i) at t
 
   -- Operands of the first cells are bits or cells before i.
   reach-kept : (c j : ℕ) → c ≤ i → at first c ≤ j → j < at first (suc c) → reach (set span i r) (at operand j) ≡ reach span (at operand j)
-  reach-kept c j h a b = go (w .earlier c j (omega arith) a b)
+  reach-kept c j h a b = go (decLt (at operand j) 32)
     where
-      go : (at operand j < k) ⊎ ((32 ≤ at operand j) × (at operand j < 32 + c)) → reach (set span i r) (at operand j) ≡ reach span (at operand j)
-      go (inl x) =
-          let small : at operand j < 32 = omega (arith, w .few-bits) in
-          reach-bit (set span i r) (at operand j) small ∙ sym (reach-bit span (at operand j) small)
-      go (inr x) =
-          reach-cell (set span i r) (at operand j) (x .0)
-          ∙ getD-set-other span i (at operand j - 32) r 0 (λ z. omega arith)
-          ∙ sym (reach-cell span (at operand j) (x .0))
+      go : Dec (at operand j < 32) → reach (set span i r) (at operand j) ≡ reach span (at operand j)
+      go (yes x) = reach-bit (set span i r) (at operand j) x ∙ sym (reach-bit span (at operand j) x)
+      go (no x) =
+          let big : 32 ≤ at operand j = omega arith in
+          reach-cell (set span i r) (at operand j) big
+          ∙ getD-set-other span i (at operand j - 32) r 0 (λ z. omega (arith, w .earlier c j (omega arith) a b))
+          ∙ sym (reach-cell span (at operand j) big)
 
   reach-few : (j : ℕ) → at first i ≤ j → j < at first (suc i) → reach span (at operand j) ≤ k
-  reach-few j a b = go (w .earlier i j l a b)
+  reach-few j a b = go (decLt (at operand j) 32)
     where
-      go : (at operand j < k) ⊎ ((32 ≤ at operand j) × (at operand j < 32 + i)) → reach span (at operand j) ≤ k
-      go (inl x) = omega (arith, reach-bit span (at operand j) (omega (arith, w .few-bits)))
-      go (inr x) = omega (arith, reach-cell span (at operand j) (x .0), s .most (at operand j - 32) (omega arith))
+      go : Dec (at operand j < 32) → reach span (at operand j) ≤ k
+      go (yes x) = omega (arith, reach-bit span (at operand j) x, bits i j l a b x)
+      go (no x) = omega (arith, reach-cell span (at operand j) (omega arith), s .most (at operand j - 32) (omega (arith, w .earlier i j l a b)))
 
   own : at (set span i r) i ≡ r
   own = getD-set-same span i r 0 (omega arith)

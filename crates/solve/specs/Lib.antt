@@ -1,4 +1,4 @@
--- A row of gates over chosen bits, and the smallest choice that gives what is wanted.
-pub mod Program
--- What the functions of the search promise each other.
+-- What the cells of a program depend on.
 pub mod Parts
+-- New numbers for the cells, and the program under them.
+pub mod Numbers

@@ -1,10 +1,10 @@
-// How many leading bits of the choice each cell hangs on.
+// How many leading bits of the choice each cell depends on.
 // Private to the crate: `solve` hands on the right program that it asks for.
 ghost use mathlib.Core.Path.{_≡_};
 ghost use Prim.Native.Nat.{ℕ, _-_, _≤_, _<_};
 ghost use lib.ListN.{length};
 ghost use Rattle.graph.specs.Columns.{at};
-ghost use Rattle.solve.specs.Parts.{reach, Most, Wired, Spans};
+ghost use Rattle.solve.specs.Parts.{reach, Most, Wired, Bits, Spans};
 
 // .. an operand: a chosen bit on those up to it, a cell on its span.
 fn reach_of(x: u16, span: &[u16]) -> u16
@@ -34,7 +34,7 @@ fn span_of(operand: &[u16], start: usize, end: usize, span: &[u16]) -> u16
 
 // .. each cell, by its operands, which come before it.
 pub fn spans<'a>(first: &'a [u16], operand: &'a [u16], cells: usize, k: u32) -> [u16; 12288]
-    requires { ⌜ Wired cells k (now first) (now operand) ⌝ }
+    requires { ⌜ Wired cells (now first) (now operand) × Bits cells k (now first) (now operand) ⌝ }
     ensures { λ r. ⌜ Spans k (now (first .entry)) (now (operand .entry)) r cells ⌝ }
 {
     let mut span = [0u16; 12288];

@@ -1,3 +1,3 @@
--- The values of the last clocks of the original, on zeros; the new start values, found clock by clock.
+-- The original on zeros, in a ring; the new start values, read off it.
 pub mod Ring
 pub mod Starts

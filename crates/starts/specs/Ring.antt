@@ -1,53 +1,97 @@
 -- The original on zeros, in a ring of 64 rows: node v's value at clock t stands in row t % 64, 512 cells long. Behind the rows, at 32,768, stand 0 and 1.
---   row                 where the row of clock t begins
+--   row t               where the row of clock t begins
+--   quietly net v t     node v's value at clock t in the original, with all inputs at 0
+--   Asked lab t v       node v is asked for at clock t: its lag is below −t
+--   Followed            what is left in the ring: of each node the last 32 values that are asked for
 --   Empty               nothing is in the rows yet
---   cellOf              where the value stands that an edge shows in clock s: w registers with the start values of `word`, from node u
---   signalCell          where a signal of the plan stands: a node's own, or that of an edge with a register
---   Cells               the plan's signals stand in these cells
---   Cellable            what finding the cells asks of the columns
---   evaluated           the ring after the first n nodes of the plan, each from those before it
---   Evaluable           what evaluating a clock asks of the columns
+--   cellOf, edgeCell    where the value stands that an edge shows in clock s: by its source u, its w registers and their start values `word`; of edge e
+--   Cells               the cells from place lo up to place hi are those of the edges there
+--   Puts                they are put there, and nothing else is
+--   CellsOf             the cells are right at the places of the first n nodes of a list
+--   Readable, Cellable, CellableOf    what finding the cells asks of the columns
+--   Kept, KeptAt        the first n members of a list that have a property, in their order in the first places of another; one of them
 -- Assumes nothing.
 use mathlib.Core.Path.{_≡_}
 use mathlib.Core.Bool.{cond}
+use mathlib.Core.Logic.{_⊎_}
 use mathlib.Core.List.{List}
-use Prim.Native.Nat.{ℕ, zero, suc, _+_, _*_, _-_, _%_, _<_, _≤_}
+use Prim.Native.Nat.{ℕ, suc, _+_, _*_, _-_, _%_, _<_, _≤_}
 use lib.Dec.{ltb}
-use lib.ListN.{length, set}
+use lib.ListN.{length}
+use Rattle.theory.specs.Clock.{value}
+use Rattle.theory.specs.Gate.{gate}
+use Rattle.theory.specs.Move.{quiet}
 use Rattle.graph.specs.Columns.{at, bit}
-use Rattle.simulate.specs.Signals.{Bits, signalOf, Placed}
+use Rattle.graph.specs.Sort.{Stands}
+use Rattle.gates.specs.Gates.{AllBits}
+use Rattle.netlist.specs.declared.Netlist.{Netlist}
+use Rattle.netlist.specs.Net.{graphOf, regsOf}
 
 abbrev pub row : ℕ → ℕ
 row t = t % 64 * 512
+
+abbrev pub quietly : Netlist → ℕ → ℕ → ℕ
+quietly net v t = value gate (graphOf net) (regsOf net) quiet v t
+
+-- A label is 16,384 and the lag.
+abbrev pub Asked : List ℕ → ℕ → ℕ → Type 0
+Asked lab t v = t + at lab v < 16384
+
+pub record Followed (net : Netlist) (lab ring : List ℕ) : Type 0 where
+  pub bits : AllBits ring
+  pub zeroth : at ring 32768 ≡ 0
+  pub one : at ring 32769 ≡ 1
+  pub last : (v t : ℕ) → v < net .nodes → Asked lab t v → 16384 ≤ t + 32 + at lab v → at ring (row t + v) ≡ quietly net v t
 
 pub record Empty (ring : List ℕ) : Type 0 where
   pub zero-all : (k : ℕ) → k < 32769 → at ring k ≡ 0
   pub one : at ring 32769 ≡ 1
 
+-- ── Cells ───────────────────────────────────────────────────────────────────────────────────
+
 -- Start value s while s is below w, and u's value at clock s − w after that.
 unfoldable pub cellOf : ℕ → ℕ → ℕ → ℕ → ℕ
 cellOf u w word s = cond (ltb s w) (32768 + bit word s) (row (s - w) + u)
 
-unfoldable pub signalCell : List ℕ → List ℕ → List ℕ → ℕ → ℕ → ℕ
-signalCell from count start s x = cond (ltb x 512) (cellOf x 0 0 s) (cellOf (at from (x - 512)) (at count (x - 512)) (at start (x - 512)) s)
+abbrev pub edgeCell : List ℕ → List ℕ → List ℕ → ℕ → ℕ → ℕ
+edgeCell from count start s e = cellOf (at from e) (at count e) (at start e) s
 
-abbrev pub Cells : List ℕ → List ℕ → List ℕ → List ℕ → ℕ → ℕ → List ℕ → Type 0
-Cells sees from count start edges s cells = (k : ℕ) → k < edges → at cells k ≡ signalCell from count start s (at sees k)
+abbrev pub Cells : List ℕ → List ℕ → List ℕ → List ℕ → ℕ → ℕ → ℕ → List ℕ → Type 0
+Cells ins from count start s lo hi cells = (k : ℕ) → lo ≤ k → k < hi → at cells k ≡ edgeCell from count start s (at ins k)
 
-pub record Cellable (sees from count start : List ℕ) (edges : ℕ) (cells : List ℕ) : Type 0 where
-  pub rows : (edges ≤ length sees) × (edges ≤ length from) × (edges ≤ length count) × (edges ≤ length start) × (edges ≤ length cells)
-  pub signals : (k : ℕ) → k < edges → at sees k < 512 + edges
-  pub sources : (e : ℕ) → e < edges → at from e < 512
-  pub widths : (e : ℕ) → e < edges → at count e ≤ 32
+pub record Puts (ins from count start : List ℕ) (s lo hi : ℕ) (old new : List ℕ) : Type 0 where
+  pub done : Cells ins from count start s lo hi new
+  pub rest : (k : ℕ) → (k < lo) ⊎ (hi ≤ k) → at new k ≡ at old k
 
-unfoldable pub evaluated : List ℕ → List ℕ → List ℕ → List ℕ → ℕ → ℕ → List ℕ → List ℕ
-evaluated node first truth cells base zero ring = ring
-evaluated node first truth cells base (suc n) ring =
-    let before = evaluated node first truth cells base n ring in
-    set before (base + at node n) (signalOf first cells truth (at node n) before)
+-- The edges that enter node v stand from place first(v) up to first(v + 1).
+abbrev pub CellsOf : List ℕ → ℕ → List ℕ → List ℕ → List ℕ → List ℕ → List ℕ → ℕ → List ℕ → Type 0
+CellsOf list n first ins from count start s cells = (i : ℕ) → i < n → Cells ins from count start s (at first (at list i)) (at first (suc (at list i))) cells
 
-pub record Evaluable (node first truth : List ℕ) (gates : ℕ) (cells : List ℕ) (base : ℕ) (ring : List ℕ) : Type 0 where
-  pub in-node : gates ≤ length node
-  pub placed : (i : ℕ) → i < gates → Placed first cells truth (length ring) (at node i)
-  pub in-ring : (i : ℕ) → i < gates → base + at node i < length ring
-  pub bits : Bits ring
+pub record Readable (from count start : List ℕ) (e : ℕ) : Type 0 where
+  pub rows : (e < length from) × (e < length count) × (e < length start)
+  pub source : at from e < 512
+  pub width : at count e ≤ 32
+
+pub record Cellable (ins from count start : List ℕ) (size lo hi : ℕ) : Type 0 where
+  pub up : lo ≤ hi
+  pub in-cells : hi ≤ size
+  pub in-ins : hi ≤ length ins
+  pub edges : (k : ℕ) → lo ≤ k → k < hi → Readable from count start (at ins k)
+
+abbrev pub CellableOf : List ℕ → ℕ → List ℕ → List ℕ → List ℕ → List ℕ → List ℕ → ℕ → Type 0
+CellableOf list n first ins from count start size =
+    (i : ℕ) → i < n → (suc (at list i) < length first) × Cellable ins from count start size (at first (at list i)) (at first (suc (at list i)))
+
+-- ── Lists ───────────────────────────────────────────────────────────────────────────────────
+
+pub record KeptAt (P : ℕ → Type 0) (old : List ℕ) (n : ℕ) (new : List ℕ) (i : ℕ) : Type 0 where
+  pub place : ℕ
+  pub within : place < n
+  pub same : at old place ≡ at new i
+  pub has : P (at new i)
+  pub before : (q : ℕ) → q < place → P (at old q) → Stands new i (at old q)
+
+pub record Kept (P : ℕ → Type 0) (old : List ℕ) (n : ℕ) (new : List ℕ) (r : ℕ) : Type 0 where
+  pub few : r ≤ n
+  pub each : (i : ℕ) → i < r → KeptAt P old n new i
+  pub every : (p : ℕ) → p < n → P (at old p) → Stands new r (at old p)

@@ -1,15 +1,28 @@
 // The original on zeros, clock by clock, in a ring of 64 rows: node v's value at clock t stands at t % 64 · 512 + v. Behind the rows, at 32,768, stand 0 and 1.
 // So no register is moved: an edge with w registers shows what its source had w clocks before, or a start value.
-// Private to the crate: `starts_of` comes here with the plan of a netlist that passed the rules.
+// Nodes whose lag is below 0 are followed, each at least up to the clock before minus its lag and at most 31 clocks further: the last 32 values before that
+// clock, which are all that a new start value or a node that is followed longer can ask for, are then still in the ring.
+// Private to the crate: `starts_of` comes here with the labels of a legal retiming of a netlist that passed the rules.
+use gates::evaluate;
+use gates::index_table;
+use gates::put_truths;
+use graph::by_rank;
+use graph::sort_by;
+use netlist::Netlist;
 ghost use mathlib.Core.Path.{_≡_};
-ghost use Prim.Native.Nat.{ℕ, _+_, _/_, _%_, _^_, _<_, _≤_};
+ghost use mathlib.Core.Logic.{_⊎_};
+ghost use Prim.Native.Nat.{ℕ, _+_, _%_, _<_, _≤_};
 ghost use lib.ListN.{length};
 ghost use Rattle.graph.specs.Columns.{at};
-ghost use Rattle.simulate.specs.Signals.{Bits, seen, signalOf, Placed};
-ghost use Rattle.starts.specs.Ring.{Empty, cellOf, signalCell, Cells, Cellable, evaluated, Evaluable};
+ghost use Rattle.simulate.specs.Ran.{Steppable};
+ghost use Rattle.moves.specs.Labels.{Labelled};
+ghost use Rattle.starts.specs.Ring.{Asked, Followed, Empty, cellOf, Puts, CellsOf, Cellable, CellableOf, Kept};
+
+// A label is 16,384 and the lag.
+const BIAS: usize = 16384;
 
 // The ring before clock 0.
-pub fn empty() -> [u8; 32770]
+fn empty() -> [u8; 32770]
     ensures { λ r. ⌜ Empty r ⌝ }
 {
     let mut ring = [0u8; 32770];
@@ -29,54 +42,72 @@ pub fn cell(u: u16, w: u8, word: u32, s: usize) -> usize
     (s - count) % 64 * 512 + u as usize
 }
 
-// .. that the signal x of the plan shows.
-fn signal_cell<'a>(from: &'a [u16], count: &'a [u8], start: &'a [u32], x: u16, s: usize) -> usize
-    requires { ⌜ (x < 512 + length (now from)) × (x < 512 + length (now count)) × (x < 512 + length (now start)) ⌝ }
-    requires { ⌜ ((e : ℕ) → x ≡ 512 + e → (at (now from) e < 512) × (at (now count) e ≤ 32)) ⌝ }
-    ensures { λ r. ⌜ r ≡ signalCell (now (from .entry)) (now (count .entry)) (now (start .entry)) s x ⌝ }
-{
-    if x < 512 {
-        return cell(x, 0, 0, s);
-    }
-    let e = x as usize - 512;
-    cell(from[e], count[e], start[e], s)
-}
-
-// .. that each signal of the plan shows.
-pub fn place<'a>(
-    sees: &[u16],
+// For the edges that stand from place `lo` up to `hi` of `ins`.
+fn place_node<'a>(
+    ins: &[u16],
+    lo: usize,
+    hi: usize,
     from: &'a [u16],
     count: &'a [u8],
     start: &'a [u32],
-    edges: usize,
     s: usize,
     cells: &mut [u16],
 )
-    requires { ⌜ Cellable (now sees) (now from) (now count) (now start) edges (now cells) ⌝ }
-    ensures { λ _. ⌜ Cells (now (sees .entry)) (now (from .entry)) (now (count .entry)) (now (start .entry)) edges s (now (cells .exit)) ⌝ }
+    requires { ⌜ Cellable (now ins) (now from) (now count) (now start) (length (now cells)) lo hi ⌝ }
+    ensures { λ _. ⌜ Puts (now (ins .entry)) (now (from .entry)) (now (count .entry)) (now (start .entry)) s lo hi (now (cells .entry)) (now (cells .exit)) ⌝ }
 {
-    let mut k = 0;
-    while k < edges {
-        cells[k] = signal_cell(from, count, start, sees[k], s) as u16;
+    let mut k = lo;
+    while k < hi {
+        let e = ins[k] as usize;
+        cells[k] = cell(from[e], count[e], start[e], s) as u16;
         k += 1;
+    }
+}
+
+// For the edges that enter the first n nodes of the list.
+fn place<'a>(
+    list: &[u16],
+    n: usize,
+    first: &[u16],
+    ins: &[u16],
+    from: &'a [u16],
+    count: &'a [u8],
+    start: &'a [u32],
+    s: usize,
+    cells: &mut [u16],
+)
+    requires { ⌜ n ≤ length (now list) ⌝ }
+    requires { ⌜ CellableOf (now list) n (now first) (now ins) (now from) (now count) (now start) (length (now cells)) ⌝ }
+    ensures { λ _. ⌜ CellsOf (now (list .entry)) n (now (first .entry)) (now (ins .entry)) (now (from .entry)) (now (count .entry)) (now (start .entry)) s (now (cells .exit)) ⌝ }
+{
+    let mut i = 0;
+    while i < n {
+        let v = list[i] as usize;
+        let lo = first[v] as usize;
+        let hi = first[v + 1] as usize;
+        place_node(ins, lo, hi, from, count, start, s, cells);
+        i += 1;
     }
 }
 
 // A row further, round the ring.
 fn advance(edges: usize, cells: &mut [u16])
-    requires { ⌜ (edges ≤ length (now cells)) × ((k : ℕ) → k < edges → at (now cells) k < 32768) ⌝ }
-    ensures { λ _. ⌜ ((k : ℕ) → k < edges → at (now (cells .exit)) k ≡ (at (now (cells .entry)) k + 512) % 32768) ⌝ }
+    requires { ⌜ edges ≤ length (now cells) ⌝ }
+    ensures { λ _. ⌜ ((k : ℕ) → k < edges → at (now (cells .exit)) k ≡ (at (now (cells .entry)) k % 32768 + 512) % 32768) ⌝ }
 {
     let mut k = 0;
     while k < edges {
-        cells[k] = (cells[k] + 512) % 32768;
+        cells[k] = (cells[k] % 32768 + 512) % 32768;
         k += 1;
     }
 }
 
-// From the cells of clock s to those of the next: from clock 32 on no start value shows any more.
-pub fn turn<'a>(
-    sees: &[u16],
+// The cells of clock s, for the first n nodes of the list: from clock 33 on no start value shows any more, so they are a row further than those of the clock before.
+fn turn<'a>(
+    list: &[u16],
+    n: usize,
+    first: &[u16],
+    ins: &[u16],
     from: &'a [u16],
     count: &'a [u8],
     start: &'a [u32],
@@ -84,67 +115,103 @@ pub fn turn<'a>(
     s: usize,
     cells: &mut [u16],
 )
-    requires { ⌜ Cellable (now sees) (now from) (now count) (now start) edges (now cells) ⌝ }
-    requires { ⌜ Cells (now sees) (now from) (now count) (now start) edges s (now cells) ⌝ }
-    ensures { λ _. ⌜ Cells (now (sees .entry)) (now (from .entry)) (now (count .entry)) (now (start .entry)) edges (s + 1) (now (cells .exit)) ⌝ }
+    requires { ⌜ (n ≤ length (now list)) × (edges ≤ length (now cells)) ⌝ }
+    requires { ⌜ CellableOf (now list) n (now first) (now ins) (now from) (now count) (now start) edges ⌝ }
+    requires { ⌜ ((t : ℕ) → 32 ≤ t → t + 1 ≡ s → CellsOf (now list) n (now first) (now ins) (now from) (now count) (now start) t (now cells)) ⌝ }
+    ensures { λ _. ⌜ CellsOf (now (list .entry)) n (now (first .entry)) (now (ins .entry)) (now (from .entry)) (now (count .entry)) (now (start .entry)) s (now (cells .exit)) ⌝ }
 {
-    if s < 32 {
-        place(sees, from, count, start, edges, s + 1, cells);
+    if s <= 32 {
+        place(list, n, first, ins, from, count, start, s, cells);
     } else {
         advance(edges, cells);
     }
 }
 
-// A truth word, moved down a bit for each cell from place `start` up to `end` that holds 1.
-fn through(cells: &[u16], start: usize, end: usize, truth: u32, ring: &[u8]) -> u32
-    requires { ⌜ (start ≤ end) × (end ≤ length (now cells)) ⌝ }
-    requires { ⌜ ((k : ℕ) → start ≤ k → k < end → at (now cells) k < length (now ring)) ⌝ }
-    requires { ⌜ Bits (now ring) ⌝ }
-    ensures { λ r. ⌜ r ≡ truth / 2 ^ seen (now (cells .entry)) start end (now (ring .entry)) ⌝ }
+// The nodes of the list that are asked for at clock s: those whose lag is below −s. They stay in their order: how many.
+fn keep_asked(lab: &[u32], s: usize, list: &mut [u16], n: usize) -> usize
+    requires { ⌜ (s < 16384) × (n ≤ length (now list)) × ((i : ℕ) → i < n → at (now list) i < length (now lab)) ⌝ }
+    ensures { λ r. ⌜ Kept (Asked (now (lab .entry)) s) (now (list .entry)) n (now (list .exit)) r ⌝ }
 {
-    let mut word = truth;
-    let mut k = start;
-    while k < end {
-        let c = cells[k] as usize;
-        word = word >> (ring[c] as u32);
-        k += 1;
-    }
-    word
-}
-
-// The value of the node v.
-fn value<'p>(first: &'p [u16], truth: &'p [u32], cells: &[u16], v: usize, ring: &[u8]) -> u8
-    requires { ⌜ Placed (now first) (now cells) (now truth) (length (now ring)) v ⌝ }
-    requires { ⌜ Bits (now ring) ⌝ }
-    ensures { λ r. ⌜ r ≡ signalOf (now (first .entry)) (now (cells .entry)) (now (truth .entry)) v (now (ring .entry)) ⌝ }
-{
-    (through(
-        cells,
-        first[v] as usize,
-        first[v + 1] as usize,
-        truth[v],
-        ring,
-    )
-        % 2) as u8
-}
-
-// One clock, in the row that begins at `base`: all nodes but the inputs, in the order of the plan.
-pub fn evaluate<'p>(
-    node: &'p [u16],
-    first: &'p [u16],
-    truth: &'p [u32],
-    gates: usize,
-    cells: &[u16],
-    base: usize,
-    ring: &mut [u8],
-)
-    requires { ⌜ Evaluable (now node) (now first) (now truth) gates (now cells) base (now ring) ⌝ }
-    ensures { λ _. ⌜ now (ring .exit) ≡ evaluated (now (node .entry)) (now (first .entry)) (now (truth .entry)) (now (cells .entry)) base gates (now (ring .entry)) ⌝ }
-{
+    let mut kept = 0;
     let mut i = 0;
-    while i < gates {
-        let v = node[i] as usize;
-        ring[base + v] = value(first, truth, cells, v, ring);
+    while i < n {
+        let v = list[i];
+        if s + (lab[v as usize] as usize) < BIAS {
+            list[kept] = v;
+            kept += 1;
+        }
         i += 1;
     }
+    kept
+}
+
+// The list for clock s. Every 32 clocks it is looked through for nodes that are asked for no more.
+fn refresh(lab: &[u32], s: usize, list: &mut [u16], n: usize) -> usize
+    requires { ⌜ (s < 16384) × (n ≤ length (now list)) × ((i : ℕ) → i < n → at (now list) i < length (now lab)) ⌝ }
+    ensures { λ r. ⌜ ((0 < s % 32) × (r ≡ n) × (now (list .exit) ≡ now (list .entry))) ⊎ Kept (Asked (now (lab .entry)) s) (now (list .entry)) n (now (list .exit)) r ⌝ }
+{
+    if 0 < s % 32 {
+        return n;
+    }
+    keep_asked(lab, s, list, n)
+}
+
+// So many clocks are asked for: the largest of the lags turned round.
+fn clocks_asked(lab: &[u32], nodes: usize) -> usize
+    requires { ⌜ nodes ≤ length (now lab) ⌝ }
+    ensures { λ r. ⌜ (r ≤ 16384) × ((v : ℕ) → v < nodes → 16384 ≤ r + at (now (lab .entry)) v) ⌝ }
+{
+    let mut most = 0;
+    let mut v = 0;
+    while v < nodes {
+        let label = lab[v] as usize;
+        if label + most < BIAS {
+            most = BIAS - label;
+        }
+        v += 1;
+    }
+    most
+}
+
+// The ring after all clocks that are asked for.
+pub fn ring_of(net: Netlist, lab: &[u32]) -> [u8; 32770]
+    requires { ⌜ Steppable net × Labelled net (now lab) ⌝ }
+    ensures { λ r. ⌜ Followed net (now (lab .entry)) r ⌝ }
+{
+    let nodes = net.nodes as usize;
+    let edges = net.edges as usize;
+    let mut ring = empty();
+    let clocks = clocks_asked(lab, nodes);
+    if clocks == 0 {
+        return ring;
+    }
+    let mut list = by_rank(&net.from, &net.to, &net.count, nodes, edges);
+    let mut ins = [0u16; 1024];
+    let mut first = [0u16; 513];
+    sort_by(&net.to, edges, nodes, &mut ins, &mut first);
+    let mut truth = [0u16; 512];
+    put_truths(&net.kind, &first, nodes, &mut truth);
+    let index = index_table();
+    let mut cells = [0u16; 1024];
+    let mut n = nodes;
+    let mut s = 0;
+    while s < clocks {
+        n = refresh(lab, s, &mut list, n);
+        turn(
+            &list,
+            n,
+            &first,
+            &ins,
+            &net.from,
+            &net.count,
+            &net.start,
+            edges,
+            s,
+            &mut cells,
+        );
+        let row = s % 64 * 512;
+        evaluate(&list, &truth, &index, &first, &cells, n, row, &mut ring);
+        s += 1;
+    }
+    ring
 }

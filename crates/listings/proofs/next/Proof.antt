@@ -34,17 +34,11 @@ pair-requires c κs = search needs
 large-buffer-requires : tie.Need-large-buffer-requires
 large-buffer-requires c κs = search needs
 
-large-buffer-requires-2 : tie.Need-large-buffer-requires-2
-large-buffer-requires-2 c κs = search needs
-
 array-borrow-prefix-text : tie.Need-array-borrow-prefix-text
 array-borrow-prefix-text c = search needs
 
 slice-aggregate-again : tie.Need-slice-aggregate-again
-slice-aggregate-again c = sym (length-take-le (c .before .before .before .pair .result) (c .before .before .large-buffer .result) (omega arith))
-
-slice-aggregate-again-2 : tie.Need-slice-aggregate-again-2
-slice-aggregate-again-2 c = search needs
+slice-aggregate-again c = sym (length-take-le (c .before .before .pair .result) (c .before .large-buffer .result) (omega arith))
 
 again-requires : tie.Need-again-requires
 again-requires c κs = search needs
@@ -65,9 +59,7 @@ next-spec =
     element-copy-out-pair-2
     pair-requires
     large-buffer-requires
-    large-buffer-requires-2
     array-borrow-prefix-text
     slice-aggregate-again
-    slice-aggregate-again-2
     again-requires
     returns-2)

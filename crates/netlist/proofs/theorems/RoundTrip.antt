@@ -1,16 +1,16 @@
 -- Demand 2: a text that reads is written as it was, and a netlist that is written reads as it was. Rows past the netlist's are read by nothing.
---   all-written         where writing refuses nothing, reading refused nothing, and the whole text was written
+--   all-written         where writing refuses nothing, reading refused nothing, and the whole text was written: there is room
 --   same-text           the text is that of the head, the nodes and the edges
 --   round-trip-text, round-trip-netlist, record-rows-unread
 -- Assumes nothing.
-use Prim.Native.Nat.{ℕ}
+use Prim.Native.Nat.{ℕ, _≤_}
 use mathlib.Core.Path.{_≡_, refl, sym, ap, ap₂, _∙_, subst, subst₂}
 use mathlib.Core.Bool.{Bool, true, false, cond}
 use mathlib.Core.List.{_++_}
 use lib.Dec.{ltb}
 use lib.ListN.{length, take, drop}
 use lib.Seq.{take-append-seam}
-use borrow.Author.Tests.{le-ltb}
+use borrow.Author.Tests.{le-ltb, ltb-false}
 use Rattle.netlist.specs.declared.Netlist.{Netlist}
 use Rattle.netlist.specs.Answer.{Says, value, refused, whole, andThen, needs, holds}
 use Rattle.netlist.specs.Read.{Judged, five, six, seven, sound, Reads}
@@ -36,12 +36,12 @@ round-trip-text t net old s new r room w =
 
 -- ── Written and read ────────────────────────────────────────────────────────────────────────
 
-all-written : (c : Says) (n m k : ℕ) → value k ≡ andThen c (needs n m) → (i : ℕ) × (c ≡ value i) × (k ≡ n)
-all-written (value i) n m k q = (i, refl, go (ltb m n) q)
+pub all-written : (c : Says) (n m k : ℕ) → value k ≡ andThen c (needs n m) → (i : ℕ) × (c ≡ value i) × (k ≡ n) × (n ≤ m)
+all-written (value i) n m k q = let r = go (ltb m n) refl q in (i, refl, r .0, r .1)
   where
-    go : (b : Bool) → value k ≡ cond b (whole 12) (value n) → k ≡ n
-    go true p = clash (cc)
-    go false p = cc
+    go : (b : Bool) → ltb m n ≡ b → value k ≡ cond b (whole 12) (value n) → (k ≡ n) × (n ≤ m)
+    go true e p = clash (cc)
+    go false e p = (cc, ltb-false m n e)
 all-written (refused a b c) n m k q = clash (cc)
 
 -- Reading that refuses nothing says 0.

@@ -6,7 +6,7 @@
 -- Assumes nothing.
 use Prim.Native.Nat.{ℕ, _*_, _%_, _<_, _≤_}
 use native.Mathlib.Omega.{arith}
-use mathlib.Core.Path.{_≡_, refl, sym, ap, ap₂, _∙_, subst}
+use mathlib.Core.Path.{_≡_, refl, sym, ap, _∙_, subst}
 use mathlib.Core.Bool.{Bool, true, _&&_}
 use mathlib.Core.List.{List, [], _∷_, _++_}
 use lib.Dec.{T, leb, eqb, leb→le, eqb→eq}
@@ -17,13 +17,13 @@ use borrow.Author.Tests.{le-ltb}
 use Rattle.theory.specs.Gate.{gate}
 use Rattle.theory.specs.Lag.{newCount}
 use Rattle.theory.specs.Move.{chosenIn}
-use Rattle.theory.specs.Retimer.{Narrow, TooMany, retimed}
+use Rattle.theory.specs.Retimer.{retimed}
 use Rattle.theory.proofs.cards.Tests.{ands, all, all-elim}
 use Rattle.theory.proofs.cards.Sweep.{at}
 use Rattle.theory.proofs.cards.Run.{graph, bit, regs}
 use Rattle.theory.proofs.cards.Claims as T
 use Rattle.netlist.specs.declared.Netlist.{Netlist}
-use Rattle.netlist.specs.Answer.{Says, value}
+use Rattle.netlist.specs.Answer.{value}
 use Rattle.netlist.specs.Net.{graphOf, regsOf, delayOf}
 use Rattle.rules.specs.Rules.{every}
 use Rattle.netlist.specs.Read.{Reads}
@@ -32,19 +32,18 @@ use Rattle.simulate.specs.Clock.{inputs, outputs}
 use Rattle.simulate.specs.Step.{bits}
 use Rattle.simulate.specs.Run.{clocksFrom, clocks, runSays}
 use Rattle.moves.specs.Moved.{withRegs, movedNet}
-use Rattle.retime.specs.Retime.{lagsOf, Room, eight, nine, eleven, done}
+use Rattle.retime.specs.Retime.{NarrowAt, ManyAt, lagTable, wide, startless, moved, eight, found}
 use Rattle.retime.specs.Demand.{tableLag}
-use Rattle.retime.specs.Theorems.{Enough}
 use Rattle.retime.specs.Card.{ClaimOf, Claim}
 use Rattle.moves.proofs.Rows.{rows-length, rows-in}
 use Rattle.moves.proofs.Moved.{with-same}
 use Rattle.retime.proofs.cards.Net.{netOf, graph-is, regs-is, delay-is, newRegs, resultOf, derive}
 use Rattle.retime.proofs.cards.Reads.{is-true, reads?, reads-yes}
 
-abbrev alike : List ℕ → List ℕ → Bool
+abbrev pub alike : List ℕ → List ℕ → Bool
 alike a b = eqb (length a) (length b) && all (length a) (λ i. eqb (at a i) (at b i))
 
-alike-yes : (a b : List ℕ) → T (alike a b) → a ≡ b
+pub alike-yes : (a b : List ℕ) → T (alike a b) → a ≡ b
 alike-yes a b =
     ands (eqb (length a) (length b)) _
     λ x y. ext-getD 0 a b (eqb→eq (length a) (length b) x) (λ i h. eqb→eq (at a i) (at b i) (all-elim (length a) (λ i. eqb (at a i) (at b i)) y i h))
@@ -68,13 +67,13 @@ module _ (net : Netlist) where
       goes? vectors && (eqb (clocks net vectors * outputs net) (length outs) && alike (clocksFrom net (clocks net vectors) (net .start) vectors) outs)
 
   -- The lags of a table that is as long as the netlist has nodes are the table.
-  lags-are : (r : List ℤ) → length r ≡ net .nodes → lagsOf net (tableLag r) ≡ r
-  lags-are r e = ext-getD (pos 0) (lagsOf net (tableLag r)) r (rows-length (tableLag r) (net .nodes) ∙ sym e) (λ i h. rows-in (tableLag r) (pos 0) (net .nodes) i (omega (arith, rows-length (tableLag r) (net .nodes))))
+  lags-are : (r : List ℤ) → length r ≡ net .nodes → lagTable net (tableLag r) ≡ r
+  lags-are r e = ext-getD (pos 0) (lagTable net (tableLag r)) r (rows-length (tableLag r) (net .nodes) ∙ sym e) (λ i h. rows-in (tableLag r) (pos 0) (net .nodes) i (omega (arith, rows-length (tableLag r) (net .nodes))))
 
-  narrow-yes : (r : ℕ → ℤ) → T (narrow? r) → Narrow (graphOf net) (regsOf net .count) r
+  narrow-yes : (r : ℕ → ℤ) → T (narrow? r) → NarrowAt net r
   narrow-yes r t e h = leb→le _ 32 (all-elim (net .edges) (λ e. leb (newCount (graphOf net) (regsOf net .count) r e) 32) t e h)
 
-  few-yes : (r : ℕ → ℤ) → T (few? r) → ¬ TooMany (graphOf net) (regsOf net .count) r
+  few-yes : (r : ℕ → ℤ) → T (few? r) → ¬ ManyAt net r
   few-yes r t h = omega (arith, leb→le (chosenIn (graphOf net) (regsOf net .count) r) 24 t)
 
   -- The retimed registers are those of the counts and words.
@@ -92,9 +91,6 @@ module _ (net : Netlist) where
   run-says vectors n old t e h = rw (is-true (goes? vectors) t, e, le-ltb old n h)
 
   module _ (reads : Reads (textOf net) (value 0) net) where
-    room : (out : List ℕ) (lags : List ℤ) (s : Says) (out′ : List ℕ) (lags′ : List ℤ) → Enough (textOf net) out lags net → Room (textOf net) out lags s out′ lags′ net
-    room out lags s out′ lags′ e = record { reads = reads; text-room = e .0; lag-room = e .1 }
-
     pub text-claim : (o : T.Result) → T (limits? o) → T.ClaimOf (graphOf net) (regsOf net) (delayOf net) (net .period) o → ClaimOf (textOf net) (resultOf net o)
     unfolding resultOf
     text-claim (T.back r n c counts words) t h =
@@ -104,24 +100,25 @@ module _ (net : Netlist) where
         let l = eqb→eq (length r) (net .nodes) x in (
           net,
           reads,
-          λ out lags e.
-              done net (room out lags _ _ _ e) (tableLag r) (h .answer .least) (narrow-yes (tableLag r) y) (few-yes (tableLag r) z) c (h .answer .best)
+          l,
+          λ out lags room.
+              found net reads room (tableLag r) (h .answer .least) (movedNet net (tableLag r) c)
+              (moved (narrow-yes (tableLag r) y) (few-yes (tableLag r) z) c (h .answer .best) (ap value (sym (h .chosen))) refl)
               (record {
-                answer = ap value (sym (h .chosen));
-                buffer = ap (λ m. textOf m ++ drop (length (textOf net)) out) (moved-is (tableLag r) c counts words (h .count) (h .start));
-                table = ap₂ (λ a i. a ++ drop i lags) (sym (lags-are r l)) l;
+                buffer = ap (λ m. textOf m ++ drop (length (textOf m)) out) (moved-is (tableLag r) c counts words (h .count) (h .start));
+                table = ap (λ a. a ++ drop (length a) lags) (sym (lags-are r l));
               }),
         ))) t
-    text-claim T.refused-8 t h = (net, reads, λ out lags e. eight net (room out lags _ _ _ e) h (record { answer = refl; buffer = refl; table = refl }))
+    text-claim T.refused-8 t h = (net, reads, λ out lags room. eight net reads room h (record { answer = refl; buffer = refl; table = refl }))
     text-claim (T.refused-9 r e) t h =
-        (net, reads, λ out lags x. nine net (room out lags _ _ _ x) (tableLag r) (h .0) e (h .1) (record { answer = refl; buffer = refl; table = refl }))
+        (net, reads, λ out lags room. found net reads room (tableLag r) (h .0) net (wide e (h .1) refl) (record { buffer = refl; table = refl }))
     text-claim (T.refused-11 r) t h =
         ands (narrow? (tableLag r)) (few? (tableLag r))
         (λ y z. (
           net,
           reads,
-          λ out lags e.
-              eleven net (room out lags _ _ _ e) (tableLag r) (h .0) (narrow-yes (tableLag r) y) (few-yes (tableLag r) z) (h .1) (record { answer = refl; buffer = refl; table = refl }),
+          λ out lags room.
+              found net reads room (tableLag r) (h .0) net (startless (narrow-yes (tableLag r) y) (few-yes (tableLag r) z) (h .1) refl) (record { buffer = refl; table = refl }),
         )) t
     text-claim (T.shows v vectors outs) t h =
         ands (goes? vectors) _

@@ -16,7 +16,7 @@ use Rattle.theory.specs.Retimer.{Narrow, TooMany}
 use Rattle.moves.specs.Labels.{lagsOf}
 use Rattle.moves.specs.Moving.{Moving}
 use Rattle.choose.specs.Wires.{Chooses}
-use Rattle.retime.specs.Moves.{wide, many, startless, moved}
+use Rattle.retime.specs.Retime.{wide, many, startless, moved}
 use Rattle.moves.proofs.Labels.{low-edges, wide-edge, wide-none}
 use Rattle.retime.proofs.moved_by.Statement.{statement}
 use Rattle.retime.proofs.moved_by.Tie as tie

@@ -9,6 +9,7 @@ use borrow.Author.Tests.{not-true, not-false}
 use denote.Ref.{now}
 use lib.ListN.{length}
 use Rattle.netlist.proofs.Run.{fit-rows}
+use Rattle.netlist.proofs.Written.{text-put}
 use Rattle.netlist.proofs.theorems.Sound.{read-is-sound}
 use Rattle.simulate.proofs.Ran.{reads-steppable}
 use Rattle.lags.proofs.Laws.{read-sure}
@@ -89,9 +90,7 @@ returns-5 c =
     retime-refused (a .text .now) (a .out .now) (a .lags .now) _ _ (c .before .before .before .before .before .before .before .before .before .before .before .before .before .before .before .read .ensures) (c .before .before .before .before .before .before .before .before .before .before .before .before .before .enum-told .given .1) (omega (arith, c .before .before .before .before .before .before .before .before .before .before .if1 .left)) (omega (arith, c .before .before .before .before .before .before .before .before .before .if2 .left)) _ (c .before .before .before .before .before .before .before .least .ensures) (not-false (c .before .before .before .before .before .before .before .least .result .found) (c .before .before .before .before .before .before .if3 .left)) _ _ (c .before .before .moved-by .ensures) (c .enum-told3 .given .1)
 
 put-text-requires : tie.Need-put-text-requires
-put-text-requires c κs =
-    let a = c .before .before .before .before .before .before .before .before .before .before .before .before .before .before .before .before .before .before .before .before .before .args in
-    text-fits (a .text .now) (a .out .now) (a .lags .now) _ _ (c .before .before .before .before .before .before .before .before .before .before .before .before .before .before .before .before .before .before .read .ensures) (c .before .before .before .before .before .before .before .before .before .before .before .before .before .before .before .before .enum-told .given .1) (omega (arith, c .before .before .before .before .before .before .before .before .before .before .before .before .before .if1 .left)) (omega (arith, c .before .before .before .before .before .before .before .before .before .before .before .before .if2 .left)) _ (c .before .before .before .before .before .before .before .before .before .before .least .ensures) (not-false (c .before .before .before .before .before .before .before .before .before .before .least .result .found) (c .before .before .before .before .before .before .before .before .before .if3 .left)) _ _ (c .before .before .before .before .before .moved-by .ensures) (c .before .before .before .b .given .1)
+put-text-requires c κs = search needs
 
 put-lags-requires : tie.Need-put-lags-requires
 put-lags-requires c κs =
@@ -106,7 +105,9 @@ same-length-2 c = search needs
 returns-6 : tie.Need-returns-6
 returns-6 c =
     let a = c .before .before .before .before .before .before .before .before .before .before .before .before .before .before .before .before .before .before .before .before .before .before .before .before .before .before .before .before .before .before .args in
-    retime-done (a .text .now) (a .out .now) (a .lags .now) _ _ (c .before .before .before .before .before .before .before .before .before .before .before .before .before .before .before .before .before .before .before .before .before .before .before .before .before .before .before .read .ensures) (c .before .before .before .before .before .before .before .before .before .before .before .before .before .before .before .before .before .before .before .before .before .before .before .before .before .enum-told .given .1) (omega (arith, c .before .before .before .before .before .before .before .before .before .before .before .before .before .before .before .before .before .before .before .before .before .before .if1 .left)) (omega (arith, c .before .before .before .before .before .before .before .before .before .before .before .before .before .before .before .before .before .before .before .before .before .if2 .left)) _ (c .before .before .before .before .before .before .before .before .before .before .before .before .before .before .before .before .before .before .before .least .ensures) (not-false (c .before .before .before .before .before .before .before .before .before .before .before .before .before .before .before .before .before .before .before .least .result .found) (c .before .before .before .before .before .before .before .before .before .before .before .before .before .before .before .before .before .before .if3 .left)) _ _ (c .before .before .before .before .before .before .before .before .before .before .before .before .before .before .moved-by .ensures) (c .before .before .before .before .before .before .before .before .before .before .before .before .b .given .1) _ _ (c .before .before .before .before .before .before .before .before .put-text .ensures .0) (c .before .put-lags .ensures)
+    let d = c .before .before .before .before .before .before .before .before .before in
+    let f = text-fits (a .text .now) (a .out .now) (a .lags .now) _ _ (d .before .before .before .before .before .before .before .before .before .before .before .before .before .before .before .before .before .before .read .ensures) (d .before .before .before .before .before .before .before .before .before .before .before .before .before .before .before .before .enum-told .given .1) (omega (arith, d .before .before .before .before .before .before .before .before .before .before .before .before .before .if1 .left)) (omega (arith, d .before .before .before .before .before .before .before .before .before .before .before .before .if2 .left)) _ (d .before .before .before .before .before .before .before .before .before .before .least .ensures) (not-false (d .before .before .before .before .before .before .before .before .before .before .least .result .found) (d .before .before .before .before .before .before .before .before .before .if3 .left)) _ _ (d .before .before .before .before .before .moved-by .ensures) (d .before .before .before .b .given .1) in
+    retime-done (a .text .now) (a .out .now) (a .lags .now) _ _ (c .before .before .before .before .before .before .before .before .before .before .before .before .before .before .before .before .before .before .before .before .before .before .before .before .before .before .before .read .ensures) (c .before .before .before .before .before .before .before .before .before .before .before .before .before .before .before .before .before .before .before .before .before .before .before .before .before .enum-told .given .1) (omega (arith, c .before .before .before .before .before .before .before .before .before .before .before .before .before .before .before .before .before .before .before .before .before .before .if1 .left)) (omega (arith, c .before .before .before .before .before .before .before .before .before .before .before .before .before .before .before .before .before .before .before .before .before .if2 .left)) _ (c .before .before .before .before .before .before .before .before .before .before .before .before .before .before .before .before .before .before .before .least .ensures) (not-false (c .before .before .before .before .before .before .before .before .before .before .before .before .before .before .before .before .before .before .before .least .result .found) (c .before .before .before .before .before .before .before .before .before .before .before .before .before .before .before .before .before .before .if3 .left)) _ _ (c .before .before .before .before .before .before .before .before .before .before .before .before .before .before .moved-by .ensures) (c .before .before .before .before .before .before .before .before .before .before .before .before .b .given .1) _ _ (text-put _ (a .out .now) _ _ (c .before .before .before .before .before .before .before .before .put-text .ensures .0) (c .before .before .before .before .before .before .before .before .put-text .ensures .1) (f .0) (f .1) (f .2) .0) (c .before .put-lags .ensures)
 
 pub retime-spec : {M : Type 1} → statement M
 retime-spec =

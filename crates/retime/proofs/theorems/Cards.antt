@@ -43,13 +43,13 @@ pub demand-asks : DemandAsks
 unfolding netOf
 demand-asks out lags a b =
     let net = netOf in-line 1 in
-    let (net′, reads, claim) = cards-hold 0 (omega arith) in
+    let (net′, reads, nodes, claim) = cards-hold 0 (omega arith) in
     let same : net ≡ net′ = one-reading (A .text) (value 0) (value 0) net net′ reads-a reads .1 in
-    let o = claim out lags (a, omega (arith, ap (λ n. n .nodes) same)) in
-    let asked = comes-asked (A .text) out lags _ _ _ net reads-a (a, b) o (0, refl) in (
+    let o = claim out lags (record { text = a; table = omega (arith, ap (λ n. n .nodes) same) }) in
+    let asked = comes-asked (A .text) out lags _ _ _ net reads-a o (0, refl) in (
       net,
       asked,
       λ s out′ lags′ x.
           let back : ComesBack s = (0, one-outcome (A .text) out lags s (value 0) out′ _ lags′ _ x o .0) in
-          (back, demand-follows (A .text) out lags s out′ lags′ x .came net asked back),
+          (back, demand-follows (A .text) out lags s out′ lags′ x .came net reads-a back),
     )

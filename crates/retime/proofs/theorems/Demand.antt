@@ -1,15 +1,16 @@
--- Demand 3 follows from the outcome.
---   table-lag           the table gives each node its lag
+-- Demand 3 follows from the outcome, and so do the bounds on lags.
+--   start-carried       the new netlist gives the old values, whatever inputs it runs on
 --   pins-agree          the original's and the moved netlist's traces agree at the pins
 --   runs-same           so both texts run alike, both ways
---   came                what came back
 --   comes-asked         what comes back is asked for
---   demand-follows
+--   came                what came back
+--   demand-follows, lags-fit
 -- Assumes nothing.
-use Prim.Native.Nat.{ℕ, _<_}
+use Prim.Native.Nat.{ℕ, _+_, _<_, _≤_}
 use native.Mathlib.Omega.{arith}
+use native.Mathlib.Decide.{decLe, decLt}
 use mathlib.Core.Path.{_≡_, refl, sym, ap, _∙_, subst}
-use mathlib.Core.Logic.{_↔_}
+use mathlib.Core.Logic.{_↔_, inl, inr}
 use mathlib.Core.List.{List, _++_}
 use lib.IntN.{ℤ, pos}
 use lib.ListN.{length, take, drop}
@@ -17,39 +18,52 @@ use lib.Seq.{take-at}
 use Rattle.theory.specs.Graph.{Pin}
 use Rattle.theory.specs.Clock.{Trace}
 use Rattle.theory.specs.Gate.{gate}
-use Rattle.theory.specs.Move.{choiceOf, Best}
-use Rattle.theory.specs.Retimer.{Sound, Narrow, Answer, Demand, retimed}
+use Rattle.theory.specs.Lag.{up, down, newCount, Legal}
+use Rattle.theory.specs.Move.{quiet, Carries, choiceOf}
+use Rattle.theory.specs.Retimer.{Sound, Answer, Demand, retimed}
+use Rattle.theory.proofs.numbers.Whole.{no-up}
+use Rattle.theory.proofs.walks.Walks.{walk-start, walk-shift}
+use Rattle.theory.proofs.walks.Short.{short-walk, few-registers}
 use Rattle.theory.proofs.clocks.Trace.{unique}
-use Rattle.theory.proofs.moves.Retime.{new-no-loop, new-trace}
+use Rattle.theory.proofs.moves.Retime.{new-no-loop, new-trace, carried-any}
+use Rattle.theory.proofs.labels.Bias.{legal-shifts}
 use Rattle.theory.proofs.least.Exists.{least-unique}
 use Rattle.theory.proofs.retimer.Demand.{demand}
+use Rattle.theory.proofs.retimer.Levels.{lag-chosen}
 use Rattle.netlist.specs.declared.Netlist.{Netlist}
-use Rattle.netlist.specs.Answer.{Says, value}
+use Rattle.netlist.specs.Answer.{Says, value, holds}
 use Rattle.netlist.specs.Net.{graphOf, regsOf, delayOf}
 use Rattle.netlist.specs.Read.{Reads}
 use Rattle.netlist.specs.Write.{textOf}
+use Rattle.netlist.proofs.Fits.{edge-fits}
+use Rattle.netlist.proofs.Run.{fit-rows}
 use Rattle.netlist.proofs.theorems.Sound.{read-is-sound}
 use Rattle.simulate.specs.Run.{Runs}
-use Rattle.simulate.proofs.theorems.Some.{some-run}
 use Rattle.simulate.proofs.theorems.Alike.{runs-alike}
+use Rattle.lags.proofs.Laws.{read-sure}
 use Rattle.moves.specs.Moved.{movedNet}
-use Rattle.retime.specs.Retime.{LeastLags, lagsOf, Room, Retimes}
+use Rattle.retime.specs.Retime.{LeastLags, NarrowAt, BestAt, lagTable, Retimes}
 use Rattle.retime.specs.Demand.{Startable, Asked, ComesBack, tableLag, Came}
-use Rattle.retime.specs.Theorems.{Enough, DemandFollows}
+use Rattle.retime.specs.Theorems.{DemandFollows, LagsFit}
 use Rattle.moves.proofs.Rows.{rows-at}
 use Rattle.moves.proofs.Lags.{count-alike, least-alike, best-alike}
 use Rattle.retime.proofs.Ends.{Fact, First, stageOf, End, Told, told-of, tell, told-at, before-done}
-use Rattle.retime.proofs.theorems.Moved.{same-length, moved-reads, moved-regs, moved-alike}
+use Rattle.retime.proofs.theorems.Moved.{same-length, moved-reads, moved-regs, moved-circuit, moved-alike}
 
 -- ── Both texts run alike ────────────────────────────────────────────────────────────────────
 
-module _ (t : List ℕ) (net : Netlist) (r : ℕ → ℤ) (c : ℕ) (h : Reads t (value 0) net) (l : LeastLags net r)
-    (narrow : Narrow (graphOf net) (regsOf net .count) r) (b : Best gate (graphOf net) (regsOf net) r c) where
+module _ (t : List ℕ) (net : Netlist) (r : ℕ → ℤ) (c : ℕ) (h : Reads t (value 0) net) (l : LeastLags net r) (narrow : NarrowAt net r) (b : BestAt net r c) where
   ok : Sound gate (graphOf net) (regsOf net)
   ok = read-is-sound t net h
 
   says : Demand gate (graphOf net) (regsOf net) (delayOf net) (net .period)
   says = demand gate (graphOf net) (regsOf net) ok (delayOf net) (net .period)
+
+  start-carried : (ins y : ℕ → ℕ → ℕ) → Trace gate (graphOf net) (regsOf (movedNet net r c)) ins y → Carries (graphOf net) (regsOf net) r y
+  start-carried ins y Y =
+      let (x, X) = says .runs quiet in
+      let legal = l .feasible .legal in
+      carried-any gate (graphOf net) (ok .wired) (regsOf net) (ok .no-loop) r legal (choiceOf (graphOf net) (regsOf net .count) r c) (b .carried) X (moved-circuit t net r c h legal quiet x X) Y
 
   -- A trace of the moved netlist is one of the retimed registers, as these are the same; and that agrees with the original's at the pins (`same` of the theory's demand).
   pins-agree : (ins x y : ℕ → ℕ → ℕ) → Trace gate (graphOf net) (regsOf net) ins x → Trace gate (graphOf net) (regsOf (movedNet net r c)) ins y
@@ -75,73 +89,116 @@ module _ (t : List ℕ) (net : Netlist) (r : ℕ → ℤ) (c : ℕ) (h : Reads t
   )
 
   came-back : Came t net (textOf (movedNet net r c)) r
-  came-back = record { least = l; number = c; start = b; moved = refl; reads = moved-text-reads; runs = some-run t; same-runs = runs-same }
+  came-back = record {
+    least = l;
+    number = c;
+    start = b;
+    moved = refl;
+    reads = moved-text-reads;
+    registers = moved-circuit t net r c h (l .feasible .legal);
+    carries = start-carried;
+    same-runs = runs-same;
+  }
 
 -- ── The call ────────────────────────────────────────────────────────────────────────────────
 
-table-lag : (net : Netlist) (r : ℕ → ℤ) (past : List ℤ) (v : ℕ) → v < net .nodes → r v ≡ tableLag (lagsOf net r ++ past) v
-table-lag net r past v h = sym (rows-at r (pos 0) (net .nodes) v past h)
+module _ (t out : List ℕ) (lags : List ℤ) (s : Says) (out′ : List ℕ) (lags′ : List ℤ) (net : Netlist) (h : Reads t (value 0) net) (o : Retimes t out lags s out′ lags′) where
+  told : Told t out lags s out′ lags′ net
+  told = told-of net h o
 
-module _ (t out : List ℕ) (lags : List ℤ) (s : Says) (out′ : List ℕ) (lags′ : List ℤ) (net : Netlist)
-    (asked : Asked t out lags net) (told : Told t out lags s out′ lags′ net) where
+  -- A call that comes back had room, and was within the limits of 9 and 10, as the least lags are one at each node.
+  pub comes-asked : ComesBack s → Asked t out lags net
+  comes-asked (k, p) = go (told-at t out lags s out′ lags′ net told 5 (ap stageOf p))
+    where
+      go : First t out lags net 5 × End t out lags s out′ lags′ net 5 → Asked t out lags net
+      go (first, (r, l, n, c, b, z, w)) =
+          let ok = read-is-sound t net h in
+          let room = first .none-before 0 (omega arith) in
+          let narrow : (q : ℕ → ℤ) → LeastLags net q → NarrowAt net q =
+          λ q m e g. omega (arith, n e g, count-alike gate (graphOf net) (ok .wired) (regsOf net) r q (least-unique r q l m) e g) in
+          record {
+            reads = h;
+            room = record {
+              text = let y : ¬ (length out < length t) = λ x. room (inl x) in omega arith;
+              table = let y : ¬ (length lags < net .nodes) = λ x. room (inr x) in omega arith;
+            };
+            few = λ q m. (narrow q m, λ many. first .none-before 3 (omega arith) (q, m, narrow q m, many));
+          }
+
   back : ComesBack s → Startable net
   back (k, p) = go (told-at t out lags s out′ lags′ net told 5 (ap stageOf p) .0 .holds)
     where
       go : Fact t out lags net 5 → Startable net
-      go (r, c, a) = demand gate (graphOf net) (regsOf net) (read-is-sound t net (asked .reads)) (delayOf net) (net .period) .only-then r c a
+      go (r, c, a) = demand gate (graphOf net) (regsOf net) (read-is-sound t net h) (delayOf net) (net .period) .only-then r c a
 
   -- The least retiming has a start too, and the limits of 9 and 10 are kept: no refusal's fact holds.
-  forth : Startable net → ComesBack s
-  forth p = go (demand gate (graphOf net) (regsOf net) (read-is-sound t net (asked .reads)) (delayOf net) (net .period) .comes-back p)
+  forth : Asked t out lags net → Startable net → ComesBack s
+  forth asked p = go (demand gate (graphOf net) (regsOf net) (read-is-sound t net h) (delayOf net) (net .period) .comes-back p)
     where
       written : End t out lags s out′ lags′ net 5 → ComesBack s
-      written (r, l, n, c, b, w) = (_, w .answer)
+      written (r, l, n, c, b, z, w) = (_, z)
 
       go : (r : ℕ → ℤ) × (c : ℕ) × Answer gate (graphOf net) (regsOf net) (delayOf net) (net .period) r c → ComesBack s
       go (r, c, a) =
           let few = asked .few r (a .least) in
-          let room : Room t out lags s out′ lags′ net = record { reads = asked .reads; text-room = asked .text-room; lag-room = asked .lag-room } in
           written (tell t out lags s out′ lags′ net told 5
-          (record { holds = (r, c, a); none-before = before-done t out lags s out′ lags′ net room r (a .least) (few .0) (few .1) c (a .best) }))
+          (record { holds = (r, c, a); none-before = before-done t out lags net h (asked .room) r (a .least) (few .0) (few .1) c (a .best) }))
 
   came : ComesBack s → Came t net (take (length t) out′) (tableLag lags′)
   came (k, p) = go (told-at t out lags s out′ lags′ net told 5 (ap stageOf p) .1)
     where
       go : End t out lags s out′ lags′ net 5 → Came t net (take (length t) out′) (tableLag lags′)
-      go (r, l, n, c, b, w) =
-          let ok = read-is-sound t net (asked .reads) in
+      go (r, l, n, c, b, z, w) =
+          let ok = read-is-sound t net h in
           let q : ℕ → ℤ = tableLag lags′ in
-          let same : (v : ℕ) → v < net .nodes → r v ≡ q v = λ v h. table-lag net r (drop (net .nodes) lags) v h ∙ ap (λ a. tableLag a v) (sym (w .table)) in
+          let table : lags′ ≡ lagTable net r ++ drop (length (lagTable net r)) lags = w .table ∙ ap (λ a. holds a (lagTable net r) lags) p in
+          let same : (v : ℕ) → v < net .nodes → r v ≡ q v = λ v hv. sym (ap (λ a. tableLag a v) table ∙ rows-at r (pos 0) (net .nodes) v (drop (length (lagTable net r)) lags) hv) in
           let text : take (length t) out′ ≡ textOf (movedNet net q c) =
-          ap (take (length t)) (w .buffer) ∙ take-at (textOf (movedNet net r c)) (drop (length t) out) (length t) (same-length t net r c (asked .reads))
+          ap (take (length t)) (w .buffer ∙ ap (λ a. holds a (textOf (movedNet net r c)) out) p)
+          ∙ take-at (textOf (movedNet net r c)) (drop (length (textOf (movedNet net r c))) out) (length t) (same-length t net r c h)
           ∙ ap textOf (moved-alike net r q c (ok .wired) same) in
           let least = least-alike gate (graphOf net) (ok .wired) (regsOf net) r q same (delayOf net) (net .period) l in
-          let narrow = asked .few q least .0 in
-          subst (λ x. Came t net x q) (sym text) (came-back t net q c (asked .reads) least narrow (best-alike gate (graphOf net) (regsOf net) ok r q (l .feasible .legal) same c b))
-
--- A call that comes back was within the limits of 9 and 10, as the least lags are one at each node.
-pub comes-asked : (t out : List ℕ) (lags : List ℤ) (s : Says) (out′ : List ℕ) (lags′ : List ℤ) (net : Netlist)
-    → Reads t (value 0) net → Enough t out lags net → Retimes t out lags s out′ lags′ → ComesBack s → Asked t out lags net
-comes-asked t out lags s out′ lags′ net h enough o (k, p) =
-    go (told-at t out lags s out′ lags′ net (told-of net h o) 5 (ap stageOf p))
-  where
-    go : First t out lags net 5 × End t out lags s out′ lags′ net 5 → Asked t out lags net
-    go (first, (r, l, n, c, b, w)) =
-        let ok = read-is-sound t net h in
-        let narrow : (q : ℕ → ℤ) → LeastLags net q → Narrow (graphOf net) (regsOf net .count) q =
-        λ q m e g. omega (arith, n e g, count-alike gate (graphOf net) (ok .wired) (regsOf net) r q (least-unique r q l m) e g) in
-        record {
-          reads = h;
-          text-room = enough .0;
-          lag-room = enough .1;
-          few = λ q m. (narrow q m, λ many. first .none-before 3 (omega arith) (q, m, narrow q m, many));
-        }
+          let narrow = comes-asked (k, p) .few q least .0 in
+          subst (λ x. Came t net x q) (sym text) (came-back t net q c h least narrow (best-alike gate (graphOf net) (regsOf net) ok r q (l .feasible .legal) same c b))
 
 -- A call that comes back has the least lags and the smallest number that carries the start there, so some retiming carries it. Back: where some legal retiming that meets the
 -- period carries the start, the least one does (Pan's theorem, in the theory's demand), no refusal's fact holds, and the call comes back. What came back is the original
 -- moved by the table's lags: it reads, and it runs as the original does, as their traces agree at the pins on all inputs, at every clock.
 pub demand-follows : DemandFollows
 demand-follows t out lags s out′ lags′ o = record {
-  exactly = λ net asked. let d = told-of net (asked .reads) o in (back t out lags s out′ lags′ net asked d, forth t out lags s out′ lags′ net asked d);
-  came = λ net asked. came t out lags s out′ lags′ net asked (told-of net (asked .reads) o);
+  exactly = λ net asked. (back t out lags s out′ lags′ net (asked .reads) o, forth t out lags s out′ lags′ net (asked .reads) o asked);
+  came = λ net h. came t out lags s out′ lags′ net h o;
 }
+
+-- ── The bounds on lags ──────────────────────────────────────────────────────────────────────
+
+-- A short walk from an input to v has 511 edges at most, so 511 · 32 registers at most, and these are what a lag can take away.
+lag-down : (t : List ℕ) (net : Netlist) (r : ℕ → ℤ) → Reads t (value 0) net → Legal (graphOf net) (regsOf net .count) r → (v : ℕ) → v < net .nodes → down (r v) ≤ 16352
+lag-down t net r h legal v hv = go (decLe (graphOf net .kind v) 1) (decLt 0 (down (r v)))
+  where
+    go : Dec (Pin (graphOf net) v) → Dec (0 < down (r v)) → down (r v) ≤ 16352
+    go (yes p) d = omega (arith, ap down (legal .pinned v hv p))
+    go (no p) (no d) = omega arith
+    go (no p) (yes d) =
+        let ok = read-is-sound t net h in
+        let fit = read-sure t net h .fit in
+        let f = ok .from-input v hv p in
+        let (q, short) = short-walk (ok .wired) (f .walk) in
+        let start = legal .pinned (f .from) (walk-start (f .walk)) (omega (arith, f .input)) in
+        omega (
+          arith,
+          fit-rows net fit .0,
+          ap up start,
+          ap down start,
+          no-up (r v) d,
+          few-registers (regsOf net .count) 32 (λ e he. edge-fits _ _ _ _ _ _ (fit .edge e he) .2) q,
+          walk-shift (regsOf net .count) (newCount (graphOf net) (regsOf net .count) r) r (legal-shifts (graphOf net) (regsOf net .count) r legal) q,
+        )
+
+-- No lag is above the number of chosen values (`lag-chosen`), and that is 24 at most.
+pub lags-fit : LagsFit
+lags-fit t out lags s out′ lags′ net h o back v hv =
+    let least = came t out lags s out′ lags′ net h o back .least in
+    let few = comes-asked t out lags s out′ lags′ net h o back .few (tableLag lags′) least .1 in
+    let legal = least .feasible .legal in
+    (omega (arith, lag-chosen (graphOf net) (regsOf net .count) (tableLag lags′) legal (read-is-sound t net h .from-input) v hv), lag-down t net (tableLag lags′) h legal v hv)

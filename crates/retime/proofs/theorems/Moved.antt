@@ -1,20 +1,23 @@
 -- The moved netlist: its text is as long as the original's and reads, and its circuit is the retimed one.
 --   same-length, moved-reads
 --   moved-regs          its registers are the retimed ones
+--   moved-circuit       so they are those of the paper's three cases, on whatever inputs the original runs
 --   moved-alike         it depends on the lags of the nodes only
 -- Assumes nothing.
 use Prim.Native.Nat.{ℕ, _<_}
+use native.Mathlib.Omega.{arith}
 use mathlib.Core.Path.{_≡_, sym, ap, _∙_}
 use mathlib.Core.List.{List}
 use lib.IntN.{ℤ}
 use lib.ListN.{length}
 use Rattle.theory.specs.Graph.{Wired}
-use Rattle.theory.specs.Clock.{SameRegs}
+use Rattle.theory.specs.Clock.{SameRegs, Trace}
 use Rattle.theory.specs.Lag.{Legal}
-use Rattle.theory.specs.Move.{move, choiceOf}
+use Rattle.theory.specs.Move.{Moved, move, choiceOf}
 use Rattle.theory.specs.Gate.{gate}
 use Rattle.theory.specs.Retimer.{Sound, retimed}
 use Rattle.theory.proofs.moves.Best.{choice-bit}
+use Rattle.theory.proofs.moves.Retime.{new-moved-any}
 use Rattle.theory.proofs.retimer.Kept.{sound-new}
 use Rattle.netlist.specs.declared.Netlist.{Netlist}
 use Rattle.netlist.specs.Answer.{value}
@@ -44,6 +47,21 @@ module _ (t : List ℕ) (net : Netlist) (r : ℕ → ℤ) (c : ℕ) (h : Reads t
   unfolding movedNet
   moved-regs =
       with-regs net (retimed gate (graphOf net) (regsOf net) r c) (fit-rows net (lines-fact t net .0 (reads-value h .0) .0) .1) (moved-sound .bits .starts)
+
+  pub moved-circuit : (ins x : ℕ → ℕ → ℕ) → Trace gate (graphOf net) (regsOf net) ins x
+      → Moved (graphOf net) (regsOf net) (regsOf (movedNet net r c)) r (choiceOf (graphOf net) (regsOf net .count) r c) x
+  moved-circuit ins x X =
+      let ok = read-is-sound t net h in
+      let same = moved-regs in
+      let m = new-moved-any gate (graphOf net) (ok .wired) (regsOf net) (ok .no-loop) r legal (choiceOf (graphOf net) (regsOf net .count) r c) X in
+      let below : (e i : ℕ) → e < net .edges → i < regsOf (movedNet net r c) .count e → i < retimed gate (graphOf net) (regsOf net) r c .count e =
+      λ e i he hi. omega (arith, same .counts e he) in
+      record {
+        counts = λ e he. omega (arith, m .counts e he, same .counts e he);
+        chosen = λ e i he hi l. same .starts e i he (below e i he hi) ∙ m .chosen e i he (below e i he hi) l;
+        kept = λ e i s he hi p l. same .starts e i he (below e i he hi) ∙ m .kept e i s he (below e i he hi) p l;
+        taken = λ e i k he hi p. same .starts e i he (below e i he hi) ∙ m .taken e i k he (below e i he hi) p;
+      }
 
 -- A sound netlist moved by legal lags is sound (`sound-new`), and no count is above 32.
 pub moved-reads : MovedReads

@@ -3,20 +3,20 @@
 --   value-zero          a reading that refuses nothing says 0
 --   some-outcome
 -- Assumes nothing.
-use Prim.Native.Nat.{ℕ, _<_, _≤_}
+use Prim.Native.Nat.{ℕ, _<_}
 use native.Mathlib.Omega.{arith}
 use native.Mathlib.Decide.{decLt}
 use mathlib.Core.Path.{_≡_, refl, subst}
 use mathlib.Core.Logic.{_⊎_, inl, inr}
-use mathlib.Core.List.{List, _++_}
+use mathlib.Core.List.{List}
 use lib.IntN.{ℤ}
-use lib.ListN.{length, drop}
+use lib.ListN.{length}
 use Rattle.theory.specs.Gate.{gate}
 use Rattle.theory.specs.Move.{chosenIn}
 use Rattle.theory.specs.Retimer.{Verdict, no-retiming, too-wide, too-many, no-start, answered}
 use Rattle.theory.proofs.retimer.Demand.{demand}
 use Rattle.netlist.specs.declared.Netlist.{Netlist}
-use Rattle.netlist.specs.Answer.{Says, value, refused, whole, edge}
+use Rattle.netlist.specs.Answer.{Says, value, refused, whole, edge, holds}
 use Rattle.netlist.specs.Net.{graphOf, regsOf, delayOf}
 use Rattle.netlist.specs.Read.{Judged, five, six, seven, sound, Reads}
 use Rattle.netlist.specs.Write.{textOf}
@@ -25,7 +25,7 @@ use Rattle.netlist.proofs.theorems.One.{one-reading}
 use Rattle.netlist.proofs.theorems.Some.{some-reading}
 use Rattle.netlist.proofs.theorems.Sound.{read-is-sound, reads-value}
 use Rattle.moves.specs.Moved.{movedNet}
-use Rattle.retime.specs.Retime.{lagsOf, Untouched, Room, Retimes, unread, twelve, eight, nine, ten, eleven, done}
+use Rattle.retime.specs.Retime.{LeastLags, lagTable, Moves, wide, many, startless, moved, Room, Untouched, Retimes, unread, twelve, eight, found}
 use Rattle.retime.specs.Theorems.{SomeOutcome, OneOutcome}
 use Rattle.retime.proofs.Ends.{Told, End, told, told-of, one-stage, untouched-alike, one-end}
 
@@ -65,24 +65,16 @@ module _ (t out : List ℕ) (lags : List ℤ) where
   untouched x = record { answer = refl; buffer = refl; table = refl }
 
   -- There is room: the theory's verdict.
-  with-room : (net : Netlist) → Reads t (value 0) net → length t ≤ length out → net .nodes ≤ length lags
-      → Verdict gate (graphOf net) (regsOf net) (delayOf net) (net .period) → Some
-  with-room net h a b = go
-    where
-      room : (s : Says) (out′ : List ℕ) (lags′ : List ℤ) → Room t out lags s out′ lags′ net
-      room s out′ lags′ = record { reads = h; text-room = a; lag-room = b }
+  module _ (net : Netlist) (h : Reads t (value 0) net) (room : Room t out lags net) where
+    ends : (r : ℕ → ℤ) → LeastLags net r → (s : Says) (new : Netlist) → Moves net r s new → Some
+    ends r l s new m = (s, holds s (textOf new) out, holds s (lagTable net r) lags, found net h room r l new m (record { buffer = refl; table = refl }))
 
-      go : Verdict gate (graphOf net) (regsOf net) (delayOf net) (net .period) → Some
-      go (no-retiming n) = (whole 8, out, lags, eight net (room _ _ _) n (untouched (whole 8)))
-      go (too-wide r l e w) = (edge 9 e, out, lags, nine net (room _ _ _) r l e w (untouched (edge 9 e)))
-      go (too-many r l n m) = (whole 10, out, lags, ten net (room _ _ _) r l n m (untouched (whole 10)))
-      go (no-start r l n m x) = (whole 11, out, lags, eleven net (room _ _ _) r l n m x (untouched (whole 11)))
-      go (answered r c x n m) = (
-        value (chosenIn (graphOf net) (regsOf net .count) r),
-        textOf (movedNet net r c) ++ drop (length t) out,
-        lagsOf net r ++ drop (net .nodes) lags,
-        done net (room _ _ _) r (x .least) n m c (x .best) (record { answer = refl; buffer = refl; table = refl }),
-      )
+    with-room : Verdict gate (graphOf net) (regsOf net) (delayOf net) (net .period) → Some
+    with-room (no-retiming n) = (whole 8, out, lags, eight net h room n (untouched (whole 8)))
+    with-room (too-wide r l e w) = ends r l (edge 9 e) net (wide e w refl)
+    with-room (too-many r l n m) = ends r l (whole 10) net (many n m refl)
+    with-room (no-start r l n m x) = ends r l (whole 11) net (startless n m x refl)
+    with-room (answered r c x n m) = ends r (x .least) (value (chosenIn (graphOf net) (regsOf net .count) r)) (movedNet net r c) (moved n m c (x .best) refl refl)
 
   reads-some : (net : Netlist) → Reads t (value 0) net → Some
   reads-some net h = go (decLt (length out) (length t)) (decLt (length lags) (net .nodes))
@@ -91,7 +83,7 @@ module _ (t out : List ℕ) (lags : List ℤ) where
       go (yes a) b = (whole 12, out, lags, twelve net h (inl a) (untouched (whole 12)))
       go (no a) (yes b) = (whole 12, out, lags, twelve net h (inr b) (untouched (whole 12)))
       go (no a) (no b) =
-          with-room net h (omega arith) (omega arith) (demand gate (graphOf net) (regsOf net) (read-is-sound t net h) (delayOf net) (net .period) .verdict)
+          with-room net h (record { text = omega arith; table = omega arith }) (demand gate (graphOf net) (regsOf net) (read-is-sound t net h) (delayOf net) (net .period) .verdict)
 
 -- The text is read (`some-reading`); what reads is sound, and a sound netlist has one of five ends (the theory's `demand`).
 pub some-outcome : SomeOutcome

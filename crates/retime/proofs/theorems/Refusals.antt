@@ -10,7 +10,7 @@ use mathlib.Core.Logic.{⊎-elim}
 use mathlib.Core.List.{List}
 use lib.IntN.{ℤ}
 use Rattle.theory.specs.Gate.{gate}
-use Rattle.theory.specs.Retimer.{Sound, TooWide, Narrow, TooMany, NoStart}
+use Rattle.theory.specs.Retimer.{Sound}
 use Rattle.theory.proofs.least.Exists.{least-unique}
 use Rattle.netlist.specs.declared.Netlist.{Netlist}
 use Rattle.netlist.specs.Answer.{Says, value, refused, whole, edge}
@@ -19,58 +19,55 @@ use Rattle.netlist.specs.Read.{Reads}
 use Rattle.netlist.proofs.Fits.{clash}
 use Rattle.netlist.proofs.theorems.One.{one-reading}
 use Rattle.netlist.proofs.theorems.Sound.{read-is-sound}
-use Rattle.retime.specs.Retime.{LeastLags, Untouched, Room, Retimes, unread, twelve, eight, nine, ten, eleven, done}
-use Rattle.retime.specs.Theorems.{Enough, RetimeFacts, RefusalFacts, UnreadFact, NothingTouched}
+use Rattle.retime.specs.Retime.{LeastLags, WideAt, NarrowAt, ManyAt, StartlessAt, Room, Untouched, Retimes, unread, twelve, eight, found}
+use Rattle.retime.specs.Theorems.{RetimeFacts, RefusalFacts, UnreadFact, NothingTouched}
 use Rattle.moves.proofs.Lags.{count-alike, chosen-alike, no-start-alike}
-use Rattle.retime.proofs.Ends.{Fact, stageOf, End, Told, told, told-of, tell, told-at, lowest-one, before-8, before-9, before-10, before-11}
+use Rattle.retime.proofs.Ends.{Fact, stageOf, End, Told, stays, told, told-of, tell, told-at, lowest-one, before-8, before-9, before-10, before-11}
 
 module _ (t out : List ℕ) (lags : List ℤ) (s : Says) (out′ : List ℕ) (lags′ : List ℤ) (net : Netlist)
     (h : Reads t (value 0) net) (told : Told t out lags s out′ lags′ net) where
-  room : Enough t out lags net → Room t out lags s out′ lags′ net
-  room e = record { reads = h; text-room = e .0; lag-room = e .1 }
-
   ok : Sound gate (graphOf net) (regsOf net)
   ok = read-is-sound t net h
 
-  module _ (enough : Enough t out lags net) (r : ℕ → ℤ) (l : LeastLags net r) where
+  module _ (room : Room t out lags net) (r : ℕ → ℤ) (l : LeastLags net r) where
     -- An edge that is too wide is the one that 9 names.
-    nine-says : (e : ℕ) → s ≡ edge 9 e → TooWide (graphOf net) (regsOf net .count) r e
+    nine-says : (e : ℕ) → s ≡ edge 9 e → WideAt net r e
     nine-says e p = go (told-at t out lags s out′ lags′ net told 2 (ap stageOf p) .1)
       where
-        go : End t out lags s out′ lags′ net 2 → TooWide (graphOf net) (regsOf net .count) r e
+        go : End t out lags s out′ lags′ net 2 → WideAt net r e
         go (q, m, i, w, u) =
             let same = count-alike gate (graphOf net) (ok .wired) (regsOf net) r q (least-unique r q l m) in
             let k : i ≡ e = let x = u .answer in cc in
-            subst (TooWide (graphOf net) (regsOf net .count) r) k
+            subst (WideAt net r) k
             (record { edge = w .edge; wide = omega (arith, w .wide, same i (w .edge)); lowest = λ j g. omega (arith, w .lowest j g, same j (let z = w .edge in omega arith)) })
 
-    nine-said : (e : ℕ) → TooWide (graphOf net) (regsOf net .count) r e → s ≡ edge 9 e
-    nine-said e w = go (tell t out lags s out′ lags′ net told 2 (record { holds = (r, l, e, w); none-before = before-9 t out lags s out′ lags′ net (room enough) r l }))
+    nine-said : (e : ℕ) → WideAt net r e → s ≡ edge 9 e
+    nine-said e w = go (tell t out lags s out′ lags′ net told 2 (record { holds = (r, l, e, w); none-before = before-9 t out lags net h room r l }))
       where
         go : End t out lags s out′ lags′ net 2 → s ≡ edge 9 e
         go (q, m, i, x, u) = u .answer ∙ ap (edge 9) (lowest-one net ok q r m l i e x w)
 
-    ten-says : s ≡ whole 10 → Narrow (graphOf net) (regsOf net .count) r × TooMany (graphOf net) (regsOf net .count) r
+    ten-says : s ≡ whole 10 → NarrowAt net r × ManyAt net r
     ten-says p = go (told-at t out lags s out′ lags′ net told 3 (ap stageOf p) .0 .holds)
       where
-        go : Fact t out lags net 3 → Narrow (graphOf net) (regsOf net .count) r × TooMany (graphOf net) (regsOf net .count) r
+        go : Fact t out lags net 3 → NarrowAt net r × ManyAt net r
         go (q, m, n, w) =
             let same = least-unique r q l m in
             (λ e g. omega (arith, n e g, count-alike gate (graphOf net) (ok .wired) (regsOf net) r q same e g), omega (arith, chosen-alike gate (graphOf net) (ok .wired) (regsOf net) r q same))
 
-    eleven-says : s ≡ whole 11 → NoStart gate (graphOf net) (regsOf net) r
+    eleven-says : s ≡ whole 11 → StartlessAt net r
     eleven-says p = go (told-at t out lags s out′ lags′ net told 4 (ap stageOf p) .0 .holds)
       where
-        go : Fact t out lags net 4 → NoStart gate (graphOf net) (regsOf net) r
+        go : Fact t out lags net 4 → StartlessAt net r
         go (q, m, n) = no-start-alike gate (graphOf net) (regsOf net) ok q r (m .feasible .legal) (least-unique q r m l) n
 
   facts : RetimeFacts t out lags s net
   facts = record {
     twelve = (λ p. told-at t out lags s out′ lags′ net told 0 (ap stageOf p) .0 .holds, λ f. tell t out lags s out′ lags′ net told 0 (record { holds = f; none-before = λ j k. absurd (omega arith) }) .answer);
-    eight = λ e. (λ p. told-at t out lags s out′ lags′ net told 1 (ap stageOf p) .0 .holds, λ n. tell t out lags s out′ lags′ net told 1 (record { holds = n; none-before = before-8 t out lags s out′ lags′ net (room e) }) .answer);
+    eight = λ e. (λ p. told-at t out lags s out′ lags′ net told 1 (ap stageOf p) .0 .holds, λ n. tell t out lags s out′ lags′ net told 1 (record { holds = n; none-before = before-8 t out lags net h e }) .answer);
     nine = λ e r l i. (nine-says e r l i, nine-said e r l i);
-    ten = λ e r l. (ten-says e r l, λ w. tell t out lags s out′ lags′ net told 3 (record { holds = (r, l, w .0, w .1); none-before = before-10 t out lags s out′ lags′ net (room e) r l (w .0) }) .answer);
-    eleven = λ e r l n few. (eleven-says e r l, λ x. tell t out lags s out′ lags′ net told 4 (record { holds = (r, l, x); none-before = before-11 t out lags s out′ lags′ net (room e) r l n few }) .answer);
+    ten = λ e r l. (ten-says e r l, λ w. tell t out lags s out′ lags′ net told 3 (record { holds = (r, l, w .0, w .1); none-before = before-10 t out lags net h e r l (w .0) }) .answer);
+    eleven = λ e r l n few. (eleven-says e r l, λ x. tell t out lags s out′ lags′ net told 4 (record { holds = (r, l, x); none-before = before-11 t out lags net h e r l n few }) .answer);
   }
 
 -- From a number to its fact: the call is told by the first fact that holds, and no other end says that number. Back: the fact is the first that holds, so the call has its end.
@@ -94,8 +91,5 @@ nothing-touched t out lags s out′ lags′ q k p o e = go o
     go : Retimes t out lags s out′ lags′ → (out′ ≡ out) × (lags′ ≡ lags)
     go (unread q′ k′ p′ net h u) = untouched u
     go (twelve net h short u) = untouched u
-    go (eight net m n u) = untouched u
-    go (nine net m r l i w u) = untouched u
-    go (ten net m r l n many u) = untouched u
-    go (eleven net m r l n few none u) = untouched u
-    go (done net m r l n few c b w) = let a = w .answer in clash (cc)
+    go (eight net h m n u) = untouched u
+    go (found net h m r l new x w) = untouched (stays net r new e w)

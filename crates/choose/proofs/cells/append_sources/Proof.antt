@@ -13,7 +13,7 @@ use Rattle.choose.proofs.cells.append_sources.Statement.{statement}
 use Rattle.choose.proofs.cells.append_sources.Tie as tie
 
 abbrev Inv-loop : tie.InvT-loop
-Inv-loop from ins counts base id t lo hi start operand₀ n₀ k₀ operand n k = (k ≤ hi) × (lo ≤ k) × (n + lo ≡ start + k) × Appended (sourceAt from counts base id t) ins operand₀ operand lo k start
+Inv-loop from ins counts base id t lo hi start operand₀ n₀ k₀ operand n k = (k ≤ hi) × (lo ≤ k) × (n + lo ≡ start + k) × Appended (λ k. sourceAt from counts base id t (at ins k)) operand₀ operand lo k start
 
 abbrev μ-loop : tie.MeasureT-loop
 μ-loop from ins counts base id t lo hi start operand₀ n₀ k₀ operand n k = hi - k
@@ -21,7 +21,7 @@ abbrev μ-loop : tie.MeasureT-loop
 loop-holds : tie.Need-loop-holds Inv-loop μ-loop
 loop-holds c =
     let a = c .before .before .before .before .before .before .args in
-    (omega arith, omega arith, refl, appended-none (sourceAt (now (a .from)) (now (a .counts)) (now (a .base)) (now (a .id)) (a .t)) (now (a .ins)) _ (a .lo) (a .start))
+    (omega arith, omega arith, refl, appended-none (λ k. sourceAt (now (a .from)) (now (a .counts)) (now (a .base)) (now (a .id)) (a .t) (at (now (a .ins)) k)) _ (a .lo) (a .start))
 
 shows : (c : tie.In-loop Inv-loop μ-loop)
     → Shows (now (c .before .before .before .before .before .before .before .before .args .from)) (now (c .before .before .before .before .before .before .before .before .args .counts)) (now (c .before .before .before .before .before .before .before .before .args .base)) (now (c .before .before .before .before .before .before .before .before .args .id)) (c .before .before .before .before .before .before .before .before .args .t) (at (now (c .before .before .before .before .before .before .before .before .args .ins)) (c .before .loop .k))
@@ -84,11 +84,11 @@ loop-again : tie.Need-loop-again Inv-loop μ-loop
 loop-again c =
     let a = c .before .before .before .before .before .before .before .before .before .before .before .before .before .args in
     let l = c .before .before .before .before .before .before .loop in
-    let f : ℕ → ℕ = sourceAt (now (a .from)) (now (a .counts)) (now (a .base)) (now (a .id)) (a .t) in (
+    let f : ℕ → ℕ = λ k. sourceAt (now (a .from)) (now (a .counts)) (now (a .base)) (now (a .id)) (a .t) (at (now (a .ins)) k) in (
       omega arith,
       omega arith,
       omega (arith, l .inv .2),
-      appended-more f (now (a .ins)) _ (l .operand) (a .lo) (l .k) (a .start) (l .n) (c .source-of .result) (l .inv .3) (l .inv .1) (l .inv .2) (room (c .before .before .before .before .before)) (told c),
+      appended-more f _ (l .operand) (a .lo) (l .k) (a .start) (l .n) (c .source-of .result) (l .inv .3) (l .inv .1) (l .inv .2) (room (c .before .before .before .before .before)) (told c),
     )
 
 same-length : tie.Need-same-length Inv-loop μ-loop
@@ -99,7 +99,7 @@ returns c =
     let a = c .before .before .before .before .before .before .before .before .args in
     let l = c .before .loop in
     let z : l .k ≡ a .hi = omega arith in
-    (l .inv .2 ∙ ap (λ k. a .start + k) z, subst (λ k. Appended (sourceAt (now (a .from)) (now (a .counts)) (now (a .base)) (now (a .id)) (a .t)) (now (a .ins)) (now (a .operand)) (l .operand) (a .lo) k (a .start)) z (l .inv .3))
+    (l .inv .2 ∙ ap (λ k. a .start + k) z, subst (λ m. Appended (λ k. sourceAt (now (a .from)) (now (a .counts)) (now (a .base)) (now (a .id)) (a .t) (at (now (a .ins)) k)) (now (a .operand)) (l .operand) (a .lo) m (a .start)) z (l .inv .3))
 
 pub append-sources-spec : {M : Type 1} → statement M
 append-sources-spec =

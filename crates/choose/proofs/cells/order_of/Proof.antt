@@ -1,6 +1,5 @@
 -- `choose::cells::order_of` meets its contract.
 -- Assumes nothing.
-use Prim.Native.Nat.{_-_}
 use native.Mathlib.Omega.{arith}
 use denote.Ref.{now}
 use borrow.Author.Needs.{needs}

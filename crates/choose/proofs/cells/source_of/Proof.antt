@@ -1,6 +1,6 @@
 -- `choose::cells::source_of` meets its contract.
 -- Assumes nothing.
-use Prim.Native.Nat.{_+_, _-_}
+use Prim.Native.Nat.{_+_}
 use native.Mathlib.Omega.{arith}
 use borrow.Author.Needs.{needs}
 use Rattle.choose.proofs.Sources.{source-chosen, source-cell}

@@ -1,31 +1,25 @@
--- `choose::choosing::compile` meets its contract: the cells put together are a right program, and what is found in it is retiming's.
+-- `choose::choosing::compile` meets its contract: the cells put together are a right program, and what is due of it is what has to be carried.
 -- Assumes nothing.
-use Prim.Native.Nat.{_-_, _≤_}
-use mathlib.Core.Path.{_≡_}
+use Prim.Native.Nat.{_≤_}
+use mathlib.Core.Path.{_≡_, _∙_}
 use native.Mathlib.Omega.{arith}
+use denote.Ref.{now}
 use borrow.Author.Needs.{needs}
 use lib.ListN.{length}
 use Rattle.moves.proofs.Labels.{low-nodes, low-edges}
-use Rattle.choose.proofs.Right.{low-lag, arranged, okay, node-low, wirable, right, chooses}
+use Rattle.choose.proofs.Right.{Placed, low-lag, arranged, okay-all, few-cells, node-low, wirable, standing}
 use Rattle.choose.proofs.choosing.compile.Statement.{statement}
 use Rattle.choose.proofs.choosing.compile.Tie as tie
 
 from-rows : (c : tie.Start) → c .args .t1 .edges ≤ length (c .args .t1 .from)
-from-rows c = let l : length (c .args .t1 .from) ≡ 1024 = search needs in omega (arith, l, low-edges _ _ (c .pre .labelled))
+from-rows c = let l : length (c .args .t1 .from) ≡ 1024 = search needs in omega (arith, l, low-edges _ _ (c .pre .0 .labelled))
 
--- The columns' lengths.
-kind-rows : (c : tie.After-kinds-of) → length (c .kinds-of .result) ≡ 12288
-kind-rows c = search needs
+order-rows : (c : tie.After-order-of) → c .before .before .before .before .before .before .before .before .before .args .t1 .nodes ≤ length (c .order-of .result)
+order-rows c = omega (arith, low-nodes _ _ (c .before .before .before .before .before .before .before .before .before .pre .0 .labelled))
 
-want-rows : (c : tie.After-wants-of) → length (c .wants-of .result) ≡ 12288
-want-rows c = search needs
-
-columns-rows : (c : tie.After-wire) → (length (c .wire .last .1 .1 .1 .1 .1 .1 .0) ≡ 12289) × (length (c .wire .last .1 .1 .1 .1 .1 .1 .1 .0) ≡ 24576)
-columns-rows c = (search (needs, c .wire .kept), search (needs, c .wire .kept))
-
--- The order has as many rows as there can be nodes.
-order-rows : (c : tie.After-order-of) → c .before .before .before .before .args .t1 .nodes ≤ length (c .order-of .result)
-order-rows c = omega (arith, low-nodes _ _ (c .before .before .before .before .pre .labelled))
+placed : (c : tie.After-number-cells)
+    → Placed (c .before .before .before .before .before .before .before .before .before .before .before .before .before .args .t1) (now (c .before .before .before .before .before .before .before .before .before .before .before .before .before .args .lab)) (now (c .before .before .before .before .before .before .before .before .before .before .before .before .before .args .counts)) (c .before .before .before .before .order-of .result) (c .number-cells .last .1 .1 .1 .0) (c .number-cells .last .1 .1 .1 .1 .0) (c .number-cells .result)
+placed c = let o = c .before .before .before .before in record { rows = order-rows o; ordered = o .order-of .ensures; numbered = c .number-cells .ensures }
 
 order-of-requires : tie.Need-order-of-requires
 order-of-requires c κs = search needs
@@ -44,31 +38,20 @@ slice-aggregate-number-cells-3 c = search needs
 
 number-cells-requires : tie.Need-number-cells-requires
 number-cells-requires c κs =
-    let b = c .before .before .before in
-    let s = b .before .before .before .before in
-    ((arranged _ _ _ _ _ (s .pre) (b .order-of .result) (omega (arith, low-nodes _ _ (s .pre .labelled))) (b .order-of .ensures), s .pre .labelled .rows), (low-lag _ _ _ _ _ (s .pre), (search needs, search needs)))
+    let o = c .before .before .before in
+    let m = o .before .before .before .before .before .before .before .before .before .pre .0 in
+    ((arranged m (order-rows o) (o .order-of .ensures), m .labelled .rows), (low-lag m, (search needs, search needs)))
 
-slice-aggregate-kinds-of : tie.Need-slice-aggregate-kinds-of
-slice-aggregate-kinds-of c = search needs
+slice-aggregate-put-kinds : tie.Need-slice-aggregate-put-kinds
+slice-aggregate-put-kinds c = search needs
 
-kinds-of-requires : tie.Need-kinds-of-requires
-kinds-of-requires c κs =
-    let b = c .before .before .before .before .before .before in
-    let s = b .before .before .before .before .before .before .before .before in
-    let ok = okay _ _ _ _ _ (s .pre) _ _ _ _ (order-rows (b .before .before .before .before)) (b .before .before .before .before .order-of .ensures) (b .number-cells .ensures) in
-    ((ok .few, omega (arith, ok .few, b .number-cells .ensures .code-rows)), λ i h. omega (arith, low-nodes _ _ (s .pre .labelled), node-low _ _ _ _ _ (s .pre) _ _ _ _ (order-rows (b .before .before .before .before)) (b .before .before .before .before .order-of .ensures) (b .number-cells .ensures) i h))
-
-slice-aggregate-wants-of : tie.Need-slice-aggregate-wants-of
-slice-aggregate-wants-of c = search needs
-
-slice-aggregate-wants-of-2 : tie.Need-slice-aggregate-wants-of-2
-slice-aggregate-wants-of-2 c = search needs
-
-wants-of-requires : tie.Need-wants-of-requires
-wants-of-requires c κs =
-    let b = c .before .before .before .before .before .before .before .before .before in
-    let s = b .before .before .before .before .before .before .before .before in
-    (s .pre .labelled, okay _ _ _ _ _ (s .pre) _ _ _ _ (order-rows (b .before .before .before .before)) (b .before .before .before .before .order-of .ensures) (b .number-cells .ensures), b .number-cells .ensures .id-rows)
+put-kinds-requires : tie.Need-put-kinds-requires
+put-kinds-requires c κs =
+    let b = c .before .before .before .before .before .before .before in
+    let s = b .before .before .before .before .before .before .before .before .before .before .before .before .before in
+    let p = placed b in
+    let few = few-cells (s .pre .0) p in
+    ((omega (arith, few, s .pre .1 .0), omega (arith, few, p .numbered .code-rows)), λ i h. omega (arith, low-nodes _ _ (s .pre .0 .labelled), node-low (s .pre .0) p i h))
 
 slice-aggregate-wire : tie.Need-slice-aggregate-wire
 slice-aggregate-wire c = search needs
@@ -76,30 +59,49 @@ slice-aggregate-wire c = search needs
 slice-aggregate-wire-2 : tie.Need-slice-aggregate-wire-2
 slice-aggregate-wire-2 c = search needs
 
-slice-aggregate-wire-3 : tie.Need-slice-aggregate-wire-3
-slice-aggregate-wire-3 c = search needs
-
-slice-aggregate-wire-4 : tie.Need-slice-aggregate-wire-4
-slice-aggregate-wire-4 c = search needs
-
 wire-requires : tie.Need-wire-requires
 wire-requires c κs =
     let b = c .before .before .before .before .before .before .before .before .before .before .before .before .before .before in
-    let s = b .before .before .before .before .before .before .before .before in
-    (wirable _ _ _ _ _ (s .pre) _ _ _ _ (order-rows (b .before .before .before .before)) (b .before .before .before .before .order-of .ensures) (b .number-cells .ensures) (from-rows s), (b .number-cells .ensures .id-rows, b .number-cells .ensures .code-rows, search needs, search needs))
+    let s = b .before .before .before .before .before .before .before .before .before .before .before .before .before in
+    let p = placed b in
+    (wirable (s .pre .0) p (from-rows s), (p .numbered .id-rows, p .numbered .code-rows, s .pre .1 .1, s .pre .1 .2))
+
+slice-aggregate-dues-of : tie.Need-slice-aggregate-dues-of
+slice-aggregate-dues-of c = search needs
+
+slice-aggregate-dues-of-2 : tie.Need-slice-aggregate-dues-of-2
+slice-aggregate-dues-of-2 c = search needs
+
+dues-of-requires : tie.Need-dues-of-requires
+dues-of-requires c κs =
+    let b = c .before .before .before .before .before .before .before .before .before .before .before .before .before .before .before .before .before .before .before .before .before .before .before in
+    let s = b .before .before .before .before .before .before .before .before .before .before .before .before .before in
+    let p = placed b in
+    ((s .pre .0 .labelled, arranged (s .pre .0) (p .rows) (p .ordered), okay-all (s .pre .0) p), (s .pre .1 .3, s .pre .1 .4))
+
+same-length : tie.Need-same-length
+same-length c = search needs
+
+same-length-2 : tie.Need-same-length-2
+same-length-2 c = search needs
+
+same-length-3 : tie.Need-same-length-3
+same-length-3 c = search needs
+
+same-length-4 : tie.Need-same-length-4
+same-length-4 c = search needs
+
+same-length-5 : tie.Need-same-length-5
+same-length-5 c = search needs
 
 returns : tie.Need-returns
 returns c =
-    let b = c .before .before .before .before .before .before .before .before .before .before .before .before .before .before .before .before .before in
-    let s = b .before .before .before .before .before .before .before .before in
-    let w = c .before .before .wire .ensures in
-    let rows = order-rows (b .before .before .before .before) in
-    let o = b .before .before .before .before .order-of .ensures in
-    let n = b .number-cells .ensures in
-    record {
-      right = right _ _ _ _ _ (s .pre) _ _ _ _ rows o n (from-rows s) _ _ (w .entering) _ _ _ _ (c .before .before .before .before .before .before .before .before .before .before .kinds-of .ensures) (w .operands) (c .before .before .before .before .before .before .before .wants-of .ensures) (kind-rows (c .before .before .before .before .before .before .before .before .before .before)) (columns-rows (c .before .before) .0) (columns-rows (c .before .before) .1) (want-rows (c .before .before .before .before .before .before .before));
-      chooses = chooses _ _ _ _ _ (s .pre) _ _ _ _ rows o n (from-rows s) _ _ (w .entering) _ _ _ _ (c .before .before .before .before .before .before .before .before .before .before .kinds-of .ensures) (w .operands) (c .before .before .before .before .before .before .before .wants-of .ensures) (kind-rows (c .before .before .before .before .before .before .before .before .before .before)) (columns-rows (c .before .before) .0) (columns-rows (c .before .before) .1) (want-rows (c .before .before .before .before .before .before .before));
-    }
+    let b = c .before .before .before .before .before .before .before .before .before .before .before .before .before .before .before .before .before .before .before .before .before .before .before .before .before .before .before .before in
+    let s = b .before .before .before .before .before .before .before .before .before .before .before .before .before in
+    let w = c .before .before .before .before .before .before .before .before .before .before .before .before .before .wire .ensures in
+    let d = c .before .before .before .before .dues-of .ensures in
+    standing (s .pre .0) (placed b) (from-rows s) (w .entering) _ (c .before .before .before .before .before .before .before .before .before .before .before .before .before .before .before .before .before .before .before .before .put-kinds .ensures) (w .operands) (d .0) (d .1)
+    (c .before .before .before .before .before .before .before .before .before .before .before .before .before .before .before .before .before .before .before .before .put-kinds .kept .1 .1 .1 .0 ∙ s .pre .1 .0) (c .before .before .before .before .before .before .before .before .before .before .before .before .before .wire .kept .1 .1 .1 .1 .1 .1 .0 ∙ s .pre .1 .1) (c .before .before .before .before .before .before .before .before .before .before .before .before .before .wire .kept .1 .1 .1 .1 .1 .1 .1 .0 ∙ s .pre .1 .2)
 
 pub compile-spec : {M : Type 1} → statement M
 compile-spec =
@@ -111,14 +113,17 @@ compile-spec =
     slice-aggregate-number-cells-2
     slice-aggregate-number-cells-3
     number-cells-requires
-    slice-aggregate-kinds-of
-    kinds-of-requires
-    slice-aggregate-wants-of
-    slice-aggregate-wants-of-2
-    wants-of-requires
+    slice-aggregate-put-kinds
+    put-kinds-requires
     slice-aggregate-wire
     slice-aggregate-wire-2
-    slice-aggregate-wire-3
-    slice-aggregate-wire-4
     wire-requires
+    slice-aggregate-dues-of
+    slice-aggregate-dues-of-2
+    dues-of-requires
+    same-length
+    same-length-2
+    same-length-3
+    same-length-4
+    same-length-5
     returns)

@@ -29,12 +29,6 @@ room c = let a = c .before .before .before .before .before .args in let l = c .b
 shared-slice-read-sig : tie.Need-shared-slice-read-sig Inv-loop μ-loop
 shared-slice-read-sig c = omega (arith, room c)
 
-cast-sig : tie.Need-cast-sig Inv-loop μ-loop
-cast-sig c = omega (arith, c .shared-slice-known2 .given (c .before .before .before .before .loop .at))
-
-mul-sig : tie.Need-mul-sig Inv-loop μ-loop
-mul-sig c = search needs
-
 slice-write-sig : tie.Need-slice-write-sig Inv-loop μ-loop
 slice-write-sig c = search needs
 
@@ -70,8 +64,6 @@ put-inputs-spec =
     loop-holds
     shared-slice-read-if1
     shared-slice-read-sig
-    cast-sig
-    mul-sig
     slice-write-sig
     add-at
     add-v

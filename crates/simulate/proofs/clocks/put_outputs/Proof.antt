@@ -25,18 +25,12 @@ loop-holds c = (omega arith, putting-start _ _ _ _)
 shared-slice-read-if1 : tie.Need-shared-slice-read-if1 Inv-loop μ-loop
 shared-slice-read-if1 c = search needs
 
-mul-out : tie.Need-mul-out Inv-loop μ-loop
-mul-out c = search needs
-
 shared-slice-read-out : tie.Need-shared-slice-read-out Inv-loop μ-loop
 shared-slice-read-out c = search needs
 
 -- An output is one of the outputs.
 room : (c : tie.After-shared-slice-known2 Inv-loop μ-loop) → among (c .before .before .before .before .before .args .kind .now) 1 (c .before .before .before .before .loop .v) + 1 ≤ among (c .before .before .before .before .before .args .kind .now) 1 (c .before .before .before .before .before .args .nodes)
 room c = let a = c .before .before .before .before .before .args in let l = c .before .before .before .before .loop in among-less (a .kind .now) 1 (l .v) (a .nodes) (c .before .if1 .taken) (omega arith)
-
-cast-out : tie.Need-cast-out Inv-loop μ-loop
-cast-out c = omega (arith, c .before .before .before .before .before .pre .1 (c .before .before .before .before .loop .v))
 
 slice-write-out : tie.Need-slice-write-out Inv-loop μ-loop
 slice-write-out c =
@@ -78,9 +72,7 @@ put-outputs-spec =
     μ-loop
     loop-holds
     shared-slice-read-if1
-    mul-out
     shared-slice-read-out
-    cast-out
     slice-write-out
     add-at
     add-v

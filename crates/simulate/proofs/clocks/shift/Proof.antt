@@ -46,11 +46,11 @@ shared-slice-read-shift-in c = omega (arith, c .before .before .before .before .
 cast-shift-in : tie.Need-cast-shift-in Inv-loop μ-loop
 cast-shift-in c = omega (arith, c .shared-slice-known5 .given (c .before .before .before .before .loop .e))
 
-mul-shift-in-2 : tie.Need-mul-shift-in-2 Inv-loop μ-loop
-mul-shift-in-2 c = omega (arith, c .before .before .shared-slice-known4 .given (c .before .before .before .before .loop .e))
-
 shared-slice-read-shift-in-2 : tie.Need-shared-slice-read-shift-in-2 Inv-loop μ-loop
 shared-slice-read-shift-in-2 c = c .before .before .before .before .before .before .before .before .before .before .pre .0 .ends (c .before .before .before .before .before .loop .e) (omega arith)
+
+cast-shift-in-2 : tie.Need-cast-shift-in-2 Inv-loop μ-loop
+cast-shift-in-2 c = let a = c .before .before .before .before .before .before .before .before .before .before .args in omega (arith, c .before .before .before .before .before .before .before .before .before .before .pre .1 (getD (a .from .now) (c .before .before .before .before .before .loop .e) 0))
 
 shift-in-requires : tie.Need-shift-in-requires Inv-loop μ-loop
 shift-in-requires c κs =
@@ -97,8 +97,8 @@ shift-spec =
     slice-read-shift-in
     shared-slice-read-shift-in
     cast-shift-in
-    mul-shift-in-2
     shared-slice-read-shift-in-2
+    cast-shift-in-2
     shift-in-requires
     mul-words
     slice-write-words

@@ -64,12 +64,15 @@ signals-of-requires c κs =
     let r = fit-rows net (s .pre .0) in
     (r .1, omega (arith, sorted .sort-by .kept .1 .1 .1 .0), ins-edge net (s .pre .0) (r .1) (sorted .sort-by .ensures))
 
-slice-aggregate-truths-of : tie.Need-slice-aggregate-truths-of
-slice-aggregate-truths-of c = search needs
+slice-aggregate-put-truths : tie.Need-slice-aggregate-put-truths
+slice-aggregate-put-truths c = search needs
 
-truths-of-requires : tie.Need-truths-of-requires
-truths-of-requires c κs =
-    let sorted = c .before .before .before .before .before .before .before .before in
+slice-aggregate-put-truths-2 : tie.Need-slice-aggregate-put-truths-2
+slice-aggregate-put-truths-2 c = search needs
+
+put-truths-requires : tie.Need-put-truths-requires
+put-truths-requires c κs =
+    let sorted = c .before .before .before .before .before .before .before .before .before in
     let kept = sorted .before .before .before .before .before .before .before in
     let ranked = kept .before .before .before .before .before .before in
     let s = ranked .before .before .before .before .before .before .before .before in
@@ -84,19 +87,19 @@ truths-of-requires c κs =
       ),
     )
 
-ones-table-requires : tie.Need-ones-table-requires
-ones-table-requires c κs = search needs
+index-table-requires : tie.Need-index-table-requires
+index-table-requires c κs = search needs
 
 returns : tie.Need-returns
 returns c =
-    let sorted = c .before .before .before .before .before .before .before .before .before .before in
+    let sorted = c .before .before .before .before .before .before .before .before .before .before .before .before in
     let kept = sorted .before .before .before .before .before .before .before in
     let ranked = kept .before .before .before .before .before .before in
     let s = ranked .before .before .before .before .before .before .before .before in
     let net = s .args .t1 in
     let r = fit-rows net (s .pre .0) in
     planned net _ (s .pre .0) _ (ranked .by-rank .ensures) (kept .gates-of .ensures) (r .1) (sorted .sort-by .ensures)
-    (omega (arith, c .before .before .before .before .before .before .signals-of .ok)) (c .before .before .before .before .before .before .signals-of .ensures) (c .before .truths-of .ensures) (c .ones-table .ensures)
+    (omega (arith, c .before .before .before .before .before .before .before .before .signals-of .ok)) (c .before .before .before .before .before .before .before .before .signals-of .ensures) (c .before .before .put-truths .ensures) (c .index-table .ensures)
 
 pub plan-of-spec : {M : Type 1} → statement M
 plan-of-spec =
@@ -113,7 +116,8 @@ plan-of-spec =
     sort-by-requires
     slice-aggregate-signals-of
     signals-of-requires
-    slice-aggregate-truths-of
-    truths-of-requires
-    ones-table-requires
+    slice-aggregate-put-truths
+    slice-aggregate-put-truths-2
+    put-truths-requires
+    index-table-requires
     returns)

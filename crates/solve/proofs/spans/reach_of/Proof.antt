@@ -2,7 +2,7 @@
 -- Assumes nothing.
 use mathlib.Core.Path.{sym, _∙_}
 use native.Mathlib.Numerals.{add-one}
-use Rattle.solve.proofs.Values.{reach-bit, reach-cell}
+use Rattle.solve.proofs.Spanning.{reach-bit, reach-cell}
 use borrow.Author.Needs.{needs}
 use Rattle.solve.proofs.spans.reach_of.Statement.{statement}
 use Rattle.solve.proofs.spans.reach_of.Tie as tie

@@ -48,8 +48,8 @@ span-of-requires : tie.Need-span-of-requires Inv-loop μ-loop
 span-of-requires c κs =
     let s = c .before .before .before .before .before .before .before in
     let l = c .before .before .before .before .loop in
-    spans-read (s .args .cells) (s .args .k) (now (s .args .first)) (now (s .args .operand)) (l .span) (l .i) (s .pre) (c .before .before .before .loop-test .taken)
-    (omega (arith, s .pre .few-cells, l .inv .1))
+    spans-read (s .args .cells) (now (s .args .first)) (now (s .args .operand)) (l .span) (l .i) (s .pre .0) (c .before .before .before .loop-test .taken)
+    (omega (arith, s .pre .0 .few-cells, l .inv .1))
 
 mul-span : tie.Need-mul-span Inv-loop μ-loop
 mul-span c = search needs
@@ -69,8 +69,8 @@ loop-again c =
     let l = c .before .before .before .before .before .loop in (
       omega arith,
       length-set (l .span) (l .i) (c .span-of .result) ∙ l .inv .1,
-      spans-more (s .args .cells) (s .args .k) (now (s .args .first)) (now (s .args .operand)) (l .span) (l .i) (c .span-of .result) (s .pre) (l .inv .2)
-          (c .before .before .before .before .loop-test .taken) (omega (arith, s .pre .few-cells, l .inv .1)) (c .span-of .ensures),
+      spans-more (s .args .cells) (s .args .k) (now (s .args .first)) (now (s .args .operand)) (l .span) (l .i) (c .span-of .result) (s .pre .0) (s .pre .1) (l .inv .2)
+          (c .before .before .before .before .loop-test .taken) (omega (arith, s .pre .0 .few-cells, l .inv .1)) (c .span-of .ensures),
     )
 
 returns : tie.Need-returns Inv-loop μ-loop

@@ -13,13 +13,13 @@ use Rattle.starts.proofs.ring.advance.Statement.{statement}
 use Rattle.starts.proofs.ring.advance.Tie as tie
 
 abbrev Inv-loop : tie.InvT-loop
-Inv-loop edges cells₀ k₀ cells k = (k ≤ edges) × (length cells ≡ length cells₀) × Filled (λ j. (at cells₀ j + 512) % 32768) (at cells₀) k cells
+Inv-loop edges cells₀ k₀ cells k = (k ≤ edges) × (length cells ≡ length cells₀) × Filled (λ j. (at cells₀ j % 32768 + 512) % 32768) (at cells₀) k cells
 
 abbrev μ-loop : tie.MeasureT-loop
 μ-loop edges cells₀ k₀ cells k = edges - k
 
 loop-holds : tie.Need-loop-holds Inv-loop μ-loop
-loop-holds c = let l = now (c .args .cells) in (omega arith, refl, filled-none (λ j. (at l j + 512) % 32768) (at l) l (λ j. refl))
+loop-holds c = let l = now (c .args .cells) in (omega arith, refl, filled-none (λ j. (at l j % 32768 + 512) % 32768) (at l) l (λ j. refl))
 
 mul-cells : tie.Need-mul-cells Inv-loop μ-loop
 mul-cells c = search needs
@@ -28,7 +28,7 @@ slice-read-cells : tie.Need-slice-read-cells Inv-loop μ-loop
 slice-read-cells c = search needs
 
 add-cells : tie.Need-add-cells Inv-loop μ-loop
-add-cells c = omega (arith, c .before .before .loop .inv .2 .past (c .before .before .loop .k) (omega arith), c .before .before .before .pre .1 (c .before .before .loop .k) (c .before .loop-test .taken))
+add-cells c = search needs
 
 mul-cells-2 : tie.Need-mul-cells-2 Inv-loop μ-loop
 mul-cells-2 c = search needs
@@ -47,8 +47,8 @@ loop-again c =
     let a = now (c .before .before .before .args .cells) in
     let l = c .before .before .loop in (
       omega arith,
-      length-set (l .cells) (l .k) ((at (l .cells) (l .k) + 512) % 32768) ∙ l .inv .1,
-      filled-more (λ j. (at a j + 512) % 32768) (at a) (l .cells) (l .k) ((at (l .cells) (l .k) + 512) % 32768) (omega arith) (ap (λ x. (x + 512) % 32768) (l .inv .2 .past (l .k) (omega arith))) (l .inv .2),
+      length-set (l .cells) (l .k) ((at (l .cells) (l .k) % 32768 + 512) % 32768) ∙ l .inv .1,
+      filled-more (λ j. (at a j % 32768 + 512) % 32768) (at a) (l .cells) (l .k) ((at (l .cells) (l .k) % 32768 + 512) % 32768) (omega arith) (ap (λ x. (x % 32768 + 512) % 32768) (l .inv .2 .past (l .k) (omega arith))) (l .inv .2),
     )
 
 same-length : tie.Need-same-length Inv-loop μ-loop

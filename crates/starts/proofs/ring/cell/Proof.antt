@@ -1,8 +1,9 @@
 -- `starts::ring::cell` meets its contract.
 -- Assumes nothing.
 use mathlib.Core.Path.{sym}
+use native.Mathlib.Omega.{arith}
 use borrow.Author.Needs.{needs}
-use Rattle.starts.proofs.Held.{cell-early, cell-late}
+use Rattle.starts.proofs.Cells.{cell-early, cell-late}
 use Rattle.starts.proofs.ring.cell.Statement.{statement}
 use Rattle.starts.proofs.ring.cell.Tie as tie
 
@@ -28,7 +29,7 @@ add-result-2 : tie.Need-add-result-2
 add-result-2 c = search needs
 
 returns-2 : tie.Need-returns-2
-returns-2 c = let a = c .before .args in sym (cell-late (a .u) (a .w) (a .word) (a .s) (c .if1 .left))
+returns-2 c = let a = c .before .args in omega (arith, cell-late (a .u) (a .w) (a .word) (a .s) (c .if1 .left))
 
 pub cell-spec : {M : Type 1} → statement M
 cell-spec =

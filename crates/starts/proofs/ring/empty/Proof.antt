@@ -2,7 +2,7 @@
 -- Assumes nothing.
 use mathlib.Core.Path.{refl}
 use borrow.Author.Needs.{needs}
-use Rattle.starts.proofs.Held.{empty-is}
+use Rattle.starts.proofs.Cells.{empty-is}
 use Rattle.starts.proofs.ring.empty.Statement.{statement}
 use Rattle.starts.proofs.ring.empty.Tie as tie
 

@@ -1,72 +1,93 @@
--- `starts::ring::place` meets its contract: the cells below place k are found.
+-- `starts::ring::place` meets its contract: the edges that enter the first i nodes have their cells.
 -- Assumes nothing.
-use Prim.Native.Nat.{_-_, _≤_}
-use mathlib.Core.Path.{_≡_, refl, _∙_}
+use Prim.Native.Nat.{suc, _+_, _-_, _≤_, _<_}
+use mathlib.Core.Path.{_≡_, refl, sym, subst, _∙_}
 use native.Mathlib.Omega.{arith}
+use native.Mathlib.Numerals.{add-one}
 use denote.Ref.{now}
-use lib.ListN.{length, length-set}
+use lib.ListN.{length}
 use borrow.Author.Needs.{needs}
 use Rattle.graph.specs.Columns.{at}
-use Rattle.graph.proofs.Fills.{fill-more}
-use Rattle.starts.specs.Ring.{signalCell, Cells}
-use Rattle.starts.proofs.Held.{signal-in}
+use Rattle.starts.specs.Ring.{CellsOf, Cellable}
+use Rattle.starts.proofs.Cells.{node-more}
 use Rattle.starts.proofs.ring.place.Statement.{statement}
 use Rattle.starts.proofs.ring.place.Tie as tie
 
 abbrev Inv-loop : tie.InvT-loop
-Inv-loop sees from count start edges s cells₀ k₀ cells k = (k ≤ edges) × (length cells ≡ length cells₀) × Cells sees from count start k s cells
+Inv-loop list n first ins from count start s cells₀ i₀ cells i = (i ≤ n) × (length cells ≡ length cells₀) × CellsOf list i first ins from count start s cells
 
 abbrev μ-loop : tie.MeasureT-loop
-μ-loop sees from count start edges s cells₀ k₀ cells k = edges - k
+μ-loop list n first ins from count start s cells₀ i₀ cells i = n - i
+
+here : (c : tie.In-loop Inv-loop μ-loop)
+    → let a = c .before .before .before .before .before .before .before .before .before .args in
+    let v = at (now (a .list)) (c .before .loop .i) in
+    (suc v < length (now (a .first))) × Cellable (now (a .ins)) (now (a .from)) (now (a .count)) (now (a .start)) (length (now (a .cells))) (at (now (a .first)) v) (at (now (a .first)) (suc v))
+here c = c .before .before .before .before .before .before .before .before .before .pre .1 (c .before .loop .i) (c .loop-test .taken)
 
 loop-holds : tie.Need-loop-holds Inv-loop μ-loop
 loop-holds c = (omega arith, refl, λ j h. absurd (let z : ⊥ = omega arith in z))
 
-mul-signal-cell : tie.Need-mul-signal-cell Inv-loop μ-loop
-mul-signal-cell c = search needs
+mul-v : tie.Need-mul-v Inv-loop μ-loop
+mul-v c = search needs
 
-shared-slice-read-signal-cell : tie.Need-shared-slice-read-signal-cell Inv-loop μ-loop
-shared-slice-read-signal-cell c = search needs
+shared-slice-read-v : tie.Need-shared-slice-read-v Inv-loop μ-loop
+shared-slice-read-v c = search needs
 
-signal-cell-requires : tie.Need-signal-cell-requires Inv-loop μ-loop
-signal-cell-requires c κs =
-    let w = c .before .before .before .before .before .before .before .before .pre in
-    let k = c .before .before .loop .k in
-    let l = w .signals k (c .before .loop-test .taken) in
-    ((omega (arith, w .rows .1), omega (arith, w .rows .2), omega (arith, w .rows .3)), λ e q. (w .sources e (omega arith), w .widths e (omega arith)))
+cast-v : tie.Need-cast-v Inv-loop μ-loop
+cast-v c = omega (arith, c .shared-slice-known7 .given (c .before .before .loop .i))
 
-cast-cells : tie.Need-cast-cells Inv-loop μ-loop
-cast-cells c =
-    let a = c .before .before .before .before .before .before .before .before .before .args in
-    omega (arith, c .signal-cell .ensures, signal-in (now (a .sees)) (now (a .from)) (now (a .count)) (now (a .start)) (a .edges) (now (a .cells)) (c .before .before .before .before .before .before .before .before .before .pre) (a .s) (c .before .before .before .loop .k) (c .before .before .loop-test .taken))
+mul-lo : tie.Need-mul-lo Inv-loop μ-loop
+mul-lo c = omega (arith, c .shared-slice-known7 .given (c .before .before .loop .i))
 
-mul-cells : tie.Need-mul-cells Inv-loop μ-loop
-mul-cells c = search needs
+shared-slice-read-lo : tie.Need-shared-slice-read-lo Inv-loop μ-loop
+shared-slice-read-lo c = omega (arith, here (c .before .before) .0)
 
-slice-write-cells : tie.Need-slice-write-cells Inv-loop μ-loop
-slice-write-cells c = omega (arith, c .before .before .before .before .before .before .before .before .before .pre .rows .4)
+cast-lo : tie.Need-cast-lo Inv-loop μ-loop
+cast-lo c = omega (arith, c .shared-slice-known8 .given (at (now (c .before .before .before .before .before .before .before .before .before .before .before .args .list)) (c .before .before .before .loop .i)))
 
-add-k : tie.Need-add-k Inv-loop μ-loop
-add-k c = search needs
+add-hi : tie.Need-add-hi Inv-loop μ-loop
+add-hi c = omega (arith, c .before .shared-slice-known7 .given (c .before .before .before .loop .i))
+
+mul-hi : tie.Need-mul-hi Inv-loop μ-loop
+mul-hi c = omega (arith, c .before .shared-slice-known7 .given (c .before .before .before .loop .i))
+
+shared-slice-read-hi : tie.Need-shared-slice-read-hi Inv-loop μ-loop
+shared-slice-read-hi c = omega (arith, here (c .before .before .before) .0)
+
+cast-hi : tie.Need-cast-hi Inv-loop μ-loop
+cast-hi c = omega (arith, c .shared-slice-known9 .given (at (now (c .before .before .before .before .before .before .before .before .before .before .before .before .args .list)) (c .before .before .before .before .loop .i) + 1))
+
+place-node-requires : tie.Need-place-node-requires Inv-loop μ-loop
+place-node-requires c κs =
+    let a = c .before .before .before .before .before .before .before .before .before .before .before .before .before .args in
+    let l = c .before .before .before .before .before .loop in
+    let v = at (now (a .list)) (l .i) in
+    subst (λ x. Cellable (now (a .ins)) (now (a .from)) (now (a .count)) (now (a .start)) x (at (now (a .first)) v) (at (now (a .first)) (v + 1))) (sym (l .inv .1))
+    (rw (add-one v) (here (c .before .before .before .before) .1))
+
+add-i : tie.Need-add-i Inv-loop μ-loop
+add-i c = search needs
 
 loop-less : tie.Need-loop-less Inv-loop μ-loop
 loop-less c = search needs
 
 loop-again : tie.Need-loop-again Inv-loop μ-loop
 loop-again c =
-    let a = c .before .before .before .before .before .before .before .before .before .args in
-    let l = c .before .before .before .loop in (
+    let a = c .before .before .before .before .before .before .before .before .before .before .before .before .before .before .before .before .args in
+    let l = c .before .before .before .before .before .before .before .before .loop in
+    let p = c .before .before .place-node in (
       omega arith,
-      length-set (l .cells) (l .k) (c .signal-cell .result) ∙ l .inv .1,
-      fill-more (λ k. signalCell (now (a .from)) (now (a .count)) (now (a .start)) (a .s) (at (now (a .sees)) k)) (l .cells) (l .k) (c .signal-cell .result)
-          (omega (arith, c .before .before .before .before .before .before .before .before .before .pre .rows .4)) (c .signal-cell .ensures) (l .inv .2),
+      p .kept .1 .1 .1 .1 .1 .1 .1 .0 ∙ l .inv .1,
+      node-more (now (a .list)) (l .i) (now (a .first)) (now (a .ins)) (now (a .from)) (now (a .count)) (now (a .start)) (a .s) (l .cells) _
+          (p .ensures) (l .inv .2),
     )
 
 same-length : tie.Need-same-length Inv-loop μ-loop
-same-length c = search needs
+same-length c = c .before .loop .inv .1
 
 returns : tie.Need-returns Inv-loop μ-loop
-returns c = λ k h. c .before .loop .inv .2 k (omega arith)
+returns c = λ j h. c .before .loop .inv .2 j (omega arith)
 
 pub place-spec : {M : Type 1} → statement M
 place-spec =
@@ -75,13 +96,18 @@ place-spec =
     Inv-loop
     μ-loop
     loop-holds
-    mul-signal-cell
-    shared-slice-read-signal-cell
-    signal-cell-requires
-    cast-cells
-    mul-cells
-    slice-write-cells
-    add-k
+    mul-v
+    shared-slice-read-v
+    cast-v
+    mul-lo
+    shared-slice-read-lo
+    cast-lo
+    add-hi
+    mul-hi
+    shared-slice-read-hi
+    cast-hi
+    place-node-requires
+    add-i
     loop-less
     loop-again
     same-length

@@ -1,26 +1,24 @@
 -- `starts::ring::turn` meets its contract.
 -- Assumes nothing.
-use Prim.Native.Nat.{_+_, _%_, _<_}
-use mathlib.Core.Path.{sym, subst, ap, _∙_}
+use Prim.Native.Nat.{_+_, _-_, _%_, _≤_}
+use mathlib.Core.Path.{_≡_, ap, _∙_}
+use native.Mathlib.Omega.{arith}
 use denote.Ref.{now}
+use lib.ListN.{length}
 use borrow.Author.Needs.{needs}
-use Rattle.starts.proofs.Held.{signal-turn}
+use Rattle.graph.specs.Columns.{at}
+use Rattle.starts.proofs.Cells.{cellable-wider, edge-turn}
 use Rattle.starts.proofs.ring.turn.Statement.{statement}
 use Rattle.starts.proofs.ring.turn.Tie as tie
 
-add-place : tie.Need-add-place
-add-place c = search needs
-
 place-requires : tie.Need-place-requires
-place-requires c κs = search needs
+place-requires c κs =
+    let s = c .before .before .before .before .before .before .before .before .before in
+    let a = s .args in
+    (s .pre .0 .0, cellable-wider (now (a .list)) (a .n) (now (a .first)) (now (a .ins)) (now (a .from)) (now (a .count)) (now (a .start)) (a .edges) (length (now (a .cells))) (s .pre .0 .1) (s .pre .1 .0))
 
 advance-requires : tie.Need-advance-requires
-advance-requires c κs =
-    let s = c .before .before .before .before .before .before .before in
-    let a = s .args in (
-      s .pre .0 .rows .4,
-      λ k h. subst (λ x. x < 32768) (sym (s .pre .1 k h)) (signal-turn (now (a .sees)) (now (a .from)) (now (a .count)) (now (a .start)) (a .edges) (now (a .cells)) (s .pre .0) (a .s) k h (c .before .if1 .left) .0),
-    )
+advance-requires c κs = search needs
 
 same-length : tie.Need-same-length
 same-length c = search needs
@@ -32,20 +30,18 @@ same-length-2 : tie.Need-same-length-2
 same-length-2 c = search needs
 
 returns-2 : tie.Need-returns-2
-returns-2 c = λ k h.
-    let s = c .before .before .before .before .before .before .before .before .before .before in
+returns-2 c =
+    let s = c .before .before .before .before .before .before .before .before .before .before .before .before in
     let a = s .args in
-    c .before .before .advance .ensures k h ∙ ap (λ x. (x + 512) % 32768) (s .pre .1 k h)
-    ∙ signal-turn (now (a .sees)) (now (a .from)) (now (a .count)) (now (a .start)) (a .edges) (now (a .cells)) (s .pre .0) (a .s) k h (c .before .before .before .before .if1 .left) .1
+    let t = a .s - 1 in
+    let q : t + 1 ≡ a .s = omega (arith, c .before .before .before .before .if1 .left) in
+    let late : 32 ≤ t = omega (arith, c .before .before .before .before .if1 .left) in
+    λ i l k x y.
+    let r = s .pre .1 .0 i l .1 in
+    c .before .before .advance .ensures k (omega (arith, r .in-cells)) ∙ ap (λ z. (z % 32768 + 512) % 32768) (s .pre .1 .1 t late q i l k x y)
+    ∙ edge-turn (now (a .from)) (now (a .count)) (now (a .start)) (at (now (a .ins)) k) t (a .s) (r .edges k x y) late q
 
 pub turn-spec : {M : Type 1} → statement M
 turn-spec =
     tie.close
-    (tie.spec
-    add-place
-    place-requires
-    advance-requires
-    same-length
-    returns
-    same-length-2
-    returns-2)
+    (tie.spec place-requires advance-requires same-length returns same-length-2 returns-2)

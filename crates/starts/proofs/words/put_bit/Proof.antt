@@ -16,7 +16,7 @@ shl-result : tie.Need-shl-result
 shl-result c = search needs
 
 add-result : tie.Need-add-result
-add-result c = record { fits = rw (exact c) (put-fits (c .args .word) (c .args .t) (c .args .x) (omega arith) (c .pre .1) (omega arith)) }
+add-result c = record { fits = rw (exact c) (put-fits (c .args .word) (c .args .t) (c .args .x) (c .pre .1) (omega arith) (omega arith)) }
 
 returns : tie.Need-returns
 returns c = ap (λ n. c .args .word + n) (exact c)

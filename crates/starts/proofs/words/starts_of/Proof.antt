@@ -1,164 +1,172 @@
--- `starts::words::starts_of` meets its contract: after s clocks the start values are found that they show.
+-- `starts::words::starts_of` meets its contract: the edges below e have their new start values.
 -- Assumes nothing.
-use Prim.Native.Nat.{_-_}
-use mathlib.Core.Path.{_≡_, refl, sym, _∙_}
+use Prim.Native.Nat.{_-_, _≤_, _<_}
+use mathlib.Core.Path.{_≡_, refl, subst, _∙_}
 use native.Mathlib.Omega.{arith}
 use denote.Ref.{now}
-use lib.ListN.{length}
+use lib.ListN.{length, length-set}
 use borrow.Author.Needs.{needs}
-use Rattle.moves.proofs.Labels.{to-node, low-edges}
-use Rattle.starts.proofs.Held.{cellable, holds-evaluable}
-use Rattle.starts.proofs.Found.{base-rising, Starting, starting-start, starting-end, starting-holds, starting-takable, starting-turn}
+use Rattle.graph.specs.Columns.{at}
+use Rattle.moves.specs.Moved.{Filled, none}
+use Rattle.moves.proofs.Labels.{to-node, low-nodes, low-edges}
+use Rattle.moves.proofs.Fills.{filled-zeros, filled-more}
+use Rattle.starts.specs.Starts.{startAt, startsAt}
+use Rattle.starts.proofs.Found.{base-rising, chosen-found, fillable, shown-found}
 use Rattle.starts.proofs.words.starts_of.Statement.{statement}
 use Rattle.starts.proofs.words.starts_of.Tie as tie
 
 abbrev Inv-loop : tie.InvT-loop
-Inv-loop lab counts base k choice net edges p gates clocks words₀ ring₀ cells₀ next₀ until₀ s₀ words ring cells next until s =
-    Starting net lab counts choice p clocks s ring cells next words until
+Inv-loop lab counts base k choice net edges ring words₀ e₀ words e = (e ≤ edges) × (length words ≡ 1024) × Filled (startsAt net lab counts choice) none e words
 
 abbrev μ-loop : tie.MeasureT-loop
-μ-loop lab counts base k choice net edges p gates clocks words₀ ring₀ cells₀ next₀ until₀ s₀ words ring cells next until s = clocks - s
+μ-loop lab counts base k choice net edges ring words₀ e₀ words e = edges - e
+
+low : (c : tie.In-loop Inv-loop μ-loop) → c .before .loop .e < 1024
+low c = omega (arith, low-edges _ _ (c .before .before .before .before .before .before .pre .labelled), c .loop-test .taken)
+
+node : (c : tie.In-loop Inv-loop μ-loop) → at (c .before .before .before .before .before .before .args .t1 .to) (c .before .loop .e) < c .before .before .before .before .before .before .args .t1 .nodes
+node c = let s = c .before .before .before .before .before .before in to-node (s .args .t1) (now (s .args .lab)) (s .pre .labelled) (c .before .loop .e) (c .loop-test .taken)
+
+ring-rows : (c : tie.After-ring-of Inv-loop μ-loop) → 32770 ≤ length (c .ring-of .result)
+ring-rows c = search needs
 
 cast-edges : tie.Need-cast-edges Inv-loop μ-loop
 cast-edges c = search needs
 
-plan-of-requires : tie.Need-plan-of-requires Inv-loop μ-loop
-plan-of-requires c κs =
-    let k = c .before .before .before .pre .steppable in
-    (k .fit, (k .fans, k .no-loop))
-
-clocks-wanted-requires : tie.Need-clocks-wanted-requires Inv-loop μ-loop
-clocks-wanted-requires c κs =
-    let s = c .before .before .before .before .before .before .before in
-    let net = s .args .t1 in
-    let m = s .pre in
-    let few = low-edges net (now (s .args .lab)) (m .labelled) in
-    ((omega arith, m .count-rows), λ e h. (omega (arith, to-node net (now (s .args .lab)) (m .labelled) e h, m .labelled .rows), m .narrow e h))
-
-chosen-words-requires : tie.Need-chosen-words-requires Inv-loop μ-loop
-chosen-words-requires c κs =
-    let s = c .before .before .before .before .before .before .before .before in
-    let m = s .pre in
-    (low-edges _ _ (m .labelled), m .base-rows, m .few, base-rising _ _ _ _ _ (s .args .choice) m)
-
-words-rows : (c : tie.After-chosen-words Inv-loop μ-loop) → length (c .chosen-words .result) ≡ 1024
-words-rows c = search needs
-
-ring-rows : (c : tie.After-empty Inv-loop μ-loop) → length (c .empty .result) ≡ 32770
-ring-rows c = search needs
-
-net-rows : (c : tie.Start Inv-loop μ-loop) → (length (c .args .t1 .from) ≡ 1024) × (length (c .args .t1 .to) ≡ 1024) × (length (c .args .t1 .count) ≡ 1024) × (length (c .args .t1 .start) ≡ 1024)
-net-rows c = (search needs, search needs, search needs, search needs)
-
-plan-rows : (c : tie.After-plan-of Inv-loop μ-loop)
-    → (length (c .plan-of .result .node) ≡ 512) × (length (c .plan-of .result .first) ≡ 513) × (length (c .plan-of .result .sees) ≡ 1024)
-    × (length (c .plan-of .result .truth) ≡ 512) × (length (c .plan-of .result .ones) ≡ 256)
-plan-rows c = (search needs, search needs, search needs, search needs, search needs)
-
-cell-rows : (c : tie.After-plan-of Inv-loop μ-loop)
-    → (length (c .plan-of .result .sees) ≡ 1024) × (length (c .before .before .before .before .args .t1 .from) ≡ 1024) × (length (c .before .before .before .before .args .t1 .count) ≡ 1024) × (length (c .before .before .before .before .args .t1 .start) ≡ 1024)
-cell-rows c = let r = net-rows (c .before .before .before .before) in (plan-rows c .2, r .0, r .2, r .3)
-
-empty-requires : tie.Need-empty-requires Inv-loop μ-loop
-empty-requires c κs = search needs
-
-slice-aggregate-place : tie.Need-slice-aggregate-place Inv-loop μ-loop
-slice-aggregate-place c = refl
-
-place-requires : tie.Need-place-requires Inv-loop μ-loop
-place-requires c κs = cellable _ _ (c .before .before .before .before .before .before .before .before .before .before .before .before .before .before .before .before .before .plan-of .ensures) (c .before .before .before .before .before .before .before .before .before .before .before .before .before .before .before .before .before .before .before .before .before .pre .steppable) (cell-rows (c .before .before .before .before .before .before .before .before .before .before .before .before .before .before .before .before .before)) _ refl
+ring-of-requires : tie.Need-ring-of-requires Inv-loop μ-loop
+ring-of-requires c κs = let m = c .before .before .before .pre in (m .steppable, m .labelled)
 
 loop-holds : tie.Need-loop-holds Inv-loop μ-loop
-loop-holds c = starting-start _ _ _ _ _ _ (c .before .before .before .before .before .before .before .before .before .before .before .before .before .before .before .before .before .before .before .before .before .before .before .pre) _ _ _ _ _ _ (ring-rows (c .before .before .before .before .before .before .before .before .before .before .before .before .before)) (c .before .before .before .before .before .before .before .before .before .before .before .before .before .empty .ensures) (c .before .place .kept .1 .1 .1 .1 .1 .1 .0) (c .before .place .ensures) refl (words-rows (c .before .before .before .before .before .before .before .before .before .before .before .before .before .before)) (c .before .before .before .before .before .before .before .before .before .before .before .before .before .before .chosen-words .ensures)
+loop-holds c = let a = c .before .before .before .before .args in (omega arith, refl, filled-zeros (startsAt (a .t1) (now (a .lab)) (now (a .counts)) (a .choice)) 1024)
 
-slice-aggregate-evaluate : tie.Need-slice-aggregate-evaluate Inv-loop μ-loop
-slice-aggregate-evaluate c = sym (c .before .before .before .before .before .before .before .before .before .loop .inv .cells-size)
+mul-v : tie.Need-mul-v Inv-loop μ-loop
+mul-v c = search needs
 
-mul-evaluate : tie.Need-mul-evaluate Inv-loop μ-loop
-mul-evaluate c = search needs
+element-copy-out-v : tie.Need-element-copy-out-v Inv-loop μ-loop
+element-copy-out-v c = low c
 
-slice-aggregate-evaluate-2 : tie.Need-slice-aggregate-evaluate-2 Inv-loop μ-loop
-slice-aggregate-evaluate-2 c = sym (c .before .before .before .before .before .before .before .before .before .before .loop .inv .holds .size)
+cast-v : tie.Need-cast-v Inv-loop μ-loop
+cast-v c = search needs
 
-evaluate-requires : tie.Need-evaluate-requires Inv-loop μ-loop
-evaluate-requires c κs =
-    let turn = c .before .before .before .before .before .before .before .before .before in
-    let s = turn .before .before .before .before .before .before .before .before .before .before .before .before .before .before .before .before .before .before .before .before .before .before .before .before .before in
-    let w = turn .before .loop .inv in
-    let plan = turn .before .before .before .before .before .before .before .before .before .before .before .before .before .before .before .before .before .before .before .before .before .plan-of .ensures in
-    let p = plan-rows (turn .before .before .before .before .before .before .before .before .before .before .before .before .before .before .before .before .before .before .before .before .before) in
-    holds-evaluable _ _ plan (s .pre .steppable) _ _ (w .cells-size) (p .2) (w .placed) _ (w .holds) (p .0, p .1, p .3, p .4)
-    (cellable _ _ plan (s .pre .steppable) (cell-rows (turn .before .before .before .before .before .before .before .before .before .before .before .before .before .before .before .before .before .before .before .before .before)) _ (w .cells-size))
+add-chosen : tie.Need-add-chosen Inv-loop μ-loop
+add-chosen c = search needs
 
-slice-aggregate-look-ahead : tie.Need-slice-aggregate-look-ahead Inv-loop μ-loop
-slice-aggregate-look-ahead c = sym (c .before .before .before .before .before .before .before .before .before .before .before .before .before .before .before .before .loop .inv .next-size)
+mul-chosen : tie.Need-mul-chosen Inv-loop μ-loop
+mul-chosen c = search needs
 
-look-ahead-requires : tie.Need-look-ahead-requires Inv-loop μ-loop
-look-ahead-requires c κs =
-    let turn = c .before .before .before .before .before .before .before .before .before .before .before .before .before .before .before in
-    let s = turn .before .before .before .before .before .before .before .before .before .before .before .before .before .before .before .before .before .before .before .before .before .before .before .before .before in
-    let w = turn .before .loop .inv in
-    let plan = turn .before .before .before .before .before .before .before .before .before .before .before .before .before .before .before .before .before .before .before .before .before .plan-of .ensures in
-    let net = s .args .t1 in
-    let m = s .pre in
-    let few = low-edges net (now (s .args .lab)) (m .labelled) in (
-      (few, omega arith, m .count-rows, omega (arith, w .next-size), omega (arith, turn .loop-test .taken, turn .before .before .before .before .before .before .before .before .before .before .before .before .before .before .before .before .before .clocks-wanted .ensures .0)),
-      (λ e h. omega (arith, to-node net (now (s .args .lab)) (m .labelled) e h, m .labelled .rows), w .ahead),
-    )
+shared-slice-read-chosen : tie.Need-shared-slice-read-chosen Inv-loop μ-loop
+shared-slice-read-chosen c = search needs
 
-slice-aggregate-take-clock : tie.Need-slice-aggregate-take-clock Inv-loop μ-loop
-slice-aggregate-take-clock c = sym (c .before .before .before .before .before .before .before .before .before .before .before .look-ahead .kept .1 .1 .1 .1 .1 .1 .0 ∙ c .before .before .before .before .before .before .before .before .before .before .before .before .before .before .before .before .before .before .before .before .before .before .before .before .before .before .before .before .loop .inv .next-size)
+mul-chosen-2 : tie.Need-mul-chosen-2 Inv-loop μ-loop
+mul-chosen-2 c = search needs
 
-slice-aggregate-take-clock-2 : tie.Need-slice-aggregate-take-clock-2 Inv-loop μ-loop
-slice-aggregate-take-clock-2 c =
-    let turn = c .before .before .before .before .before .before .before .before .before .before .before .before .before .before .before .before .before .before .before .before .before .before .before .before .before .before .before .before in
-    let s = turn .before .before .before .before .before .before .before .before .before .before .before .before .before .before .before .before .before .before .before .before .before .before .before .before .before in
-    let w = turn .before .loop .inv in
-    let plan = turn .before .before .before .before .before .before .before .before .before .before .before .before .before .before .before .before .before .before .before .before .before .plan-of .ensures in
-    sym ((starting-holds _ _ _ _ _ _ (s .pre) _ _ plan _ _ _ _ _ _ w (turn .loop-test .taken) (plan-rows (turn .before .before .before .before .before .before .before .before .before .before .before .before .before .before .before .before .before .before .before .before .before) .2) _ (c .before .before .before .before .before .before .before .before .before .before .before .before .before .before .before .before .before .before .evaluate .ensures)) .size)
+shared-slice-read-chosen-2 : tie.Need-shared-slice-read-chosen-2 Inv-loop μ-loop
+shared-slice-read-chosen-2 c = search needs
 
-slice-aggregate-take-clock-3 : tie.Need-slice-aggregate-take-clock-3 Inv-loop μ-loop
-slice-aggregate-take-clock-3 c = sym (c .before .before .before .before .before .before .before .before .before .before .before .before .before .before .before .before .before .before .before .before .before .before .before .before .before .before .before .before .before .before .loop .inv .words-size)
+sub-chosen : tie.Need-sub-chosen Inv-loop μ-loop
+sub-chosen c =
+    let a = c .before .before .before .before .before .before .before .before .before .args in
+    let m = c .before .before .before .before .before .before .before .before .before .pre in
+    let l = c .before .before .before .before .loop in
+    let e = l .e in
+    let h = c .before .before .before .loop-test .taken in
+    base-rising (a .t1) (now (a .lab)) (now (a .counts)) (now (a .base)) (a .k) (a .choice) m e h .0
 
-take-clock-requires : tie.Need-take-clock-requires Inv-loop μ-loop
-take-clock-requires c κs =
-    let turn = c .before .before .before .before .before .before .before .before .before .before .before .before .before .before .before .before .before .before .before .before .before .before .before .before .before .before .before .before .before in
-    let s = turn .before .before .before .before .before .before .before .before .before .before .before .before .before .before .before .before .before .before .before .before .before .before .before .before .before in
-    let w = turn .before .loop .inv in
-    let plan = turn .before .before .before .before .before .before .before .before .before .before .before .before .before .before .before .before .before .before .before .before .before .plan-of .ensures in
-    let l = c .before .before .before .before .before .before .before .before .before .before .before .before .before .look-ahead in
-    starting-takable _ _ _ _ _ _ (s .pre) _ _ plan _ _ _ _ _ _ w (turn .loop-test .taken) _ (starting-holds _ _ _ _ _ _ (s .pre) _ _ plan _ _ _ _ _ _ w (turn .loop-test .taken) (plan-rows (turn .before .before .before .before .before .before .before .before .before .before .before .before .before .before .before .before .before .before .before .before .before) .2) _ (c .before .before .before .before .before .before .before .before .before .before .before .before .before .before .before .before .before .before .before .evaluate .ensures)) _ _ (l .ensures .0) (l .ensures .1) (l .kept .1 .1 .1 .1 .1 .1 .0 ∙ w .next-size)
-    (turn .before .before .before .before .before .before .before .before .before .before .before .before .before .before .before .before .before .clocks-wanted .ensures .0) (net-rows s)
+mul-chosen-word : tie.Need-mul-chosen-word Inv-loop μ-loop
+mul-chosen-word c = search needs
 
-slice-aggregate-turn : tie.Need-slice-aggregate-turn Inv-loop μ-loop
-slice-aggregate-turn c = sym (c .before .before .before .before .before .before .before .before .before .before .before .before .before .before .before .before .before .before .before .before .before .before .before .before .before .before .before .before .before .before .before .before .before .before .before .before .before .before .before .before .before .before .before .loop .inv .cells-size)
+shared-slice-read-chosen-word : tie.Need-shared-slice-read-chosen-word Inv-loop μ-loop
+shared-slice-read-chosen-word c = search needs
 
-turn-requires : tie.Need-turn-requires Inv-loop μ-loop
-turn-requires c κs =
-    let turn = c .before .before .before .before .before .before .before .before .before .before .before .before .before .before .before .before .before .before .before .before .before .before .before .before .before .before .before .before .before .before .before .before .before .before .before .before .before .before .before .before .before .before in
-    let s = turn .before .before .before .before .before .before .before .before .before .before .before .before .before .before .before .before .before .before .before .before .before .before .before .before .before in
-    let w = turn .before .loop .inv in
-    let plan = turn .before .before .before .before .before .before .before .before .before .before .before .before .before .before .before .before .before .before .before .before .before .plan-of .ensures in
-    (cellable _ _ plan (s .pre .steppable) (cell-rows (turn .before .before .before .before .before .before .before .before .before .before .before .before .before .before .before .before .before .before .before .before .before)) _ (w .cells-size), w .placed)
+add-chosen-word : tie.Need-add-chosen-word Inv-loop μ-loop
+add-chosen-word c = search needs
 
-add-s : tie.Need-add-s Inv-loop μ-loop
-add-s c = let turn = c .before .before .before .before .before .before .before .before .before .before .before .before .before .before .before .before .before .before .before .before .before .before .before .before .before .before .before .before .before .before .before .before .before .before .before .before .before .before .before .before .before .before .before .before in omega (arith, turn .loop-test .taken, turn .before .before .before .before .before .before .before .before .before .before .before .before .before .before .before .before .before .clocks-wanted .ensures .0)
+mul-chosen-word-2 : tie.Need-mul-chosen-word-2 Inv-loop μ-loop
+mul-chosen-word-2 c = search needs
+
+shared-slice-read-chosen-word-2 : tie.Need-shared-slice-read-chosen-word-2 Inv-loop μ-loop
+shared-slice-read-chosen-word-2 c = search needs
+
+chosen-word-requires : tie.Need-chosen-word-requires Inv-loop μ-loop
+chosen-word-requires c κs =
+    let a = c .before .before .before .before .before .before .before .before .before .before .before .args in
+    let m = c .before .before .before .before .before .before .before .before .before .before .before .pre in
+    let l = c .before .before .before .before .before .before .loop in
+    let e = l .e in
+    let h = c .before .before .before .before .before .loop-test .taken in
+    let r = base-rising (a .t1) (now (a .lab)) (now (a .counts)) (now (a .base)) (a .k) (a .choice) m e h in
+    (r .0, r .1, m .few)
+
+mul-filled : tie.Need-mul-filled Inv-loop μ-loop
+mul-filled c = search needs
+
+shared-slice-read-filled : tie.Need-shared-slice-read-filled Inv-loop μ-loop
+shared-slice-read-filled c = search needs
+
+mul-filled-2 : tie.Need-mul-filled-2 Inv-loop μ-loop
+mul-filled-2 c = omega (arith, node (c .before .before .before .before .before .before .before), low-nodes _ _ (c .before .before .before .before .before .before .before .before .before .before .before .before .before .pre .labelled))
+
+shared-slice-read-filled-2 : tie.Need-shared-slice-read-filled-2 Inv-loop μ-loop
+shared-slice-read-filled-2 c = omega (arith, node (c .before .before .before .before .before .before .before .before), c .before .before .before .before .before .before .before .before .before .before .before .before .before .before .pre .labelled .rows)
+
+mul-filled-3 : tie.Need-mul-filled-3 Inv-loop μ-loop
+mul-filled-3 c = search needs
+
+element-copy-out-filled : tie.Need-element-copy-out-filled Inv-loop μ-loop
+element-copy-out-filled c = low (c .before .before .before .before .before .before .before .before)
+
+element-copy-out-filled-2 : tie.Need-element-copy-out-filled-2 Inv-loop μ-loop
+element-copy-out-filled-2 c = low (c .before .before .before .before .before .before .before .before .before)
+
+mul-filled-4 : tie.Need-mul-filled-4 Inv-loop μ-loop
+mul-filled-4 c = search needs
+
+element-copy-out-filled-3 : tie.Need-element-copy-out-filled-3 Inv-loop μ-loop
+element-copy-out-filled-3 c = low (c .before .before .before .before .before .before .before .before .before .before)
+
+slice-aggregate-filled : tie.Need-slice-aggregate-filled Inv-loop μ-loop
+slice-aggregate-filled c = search needs
+
+filled-requires : tie.Need-filled-requires Inv-loop μ-loop
+filled-requires c κs =
+    let a = c .before .before .before .before .before .before .before .before .before .before .before .before .before .before .before .before .before .before .args in
+    let m = c .before .before .before .before .before .before .before .before .before .before .before .before .before .before .before .before .before .before .pre in
+    let l = c .before .before .before .before .before .before .before .before .before .before .before .before .before .loop in
+    let e = l .e in
+    let h = c .before .before .before .before .before .before .before .before .before .before .before .before .loop-test .taken in
+    fillable (a .t1) (now (a .lab)) (now (a .counts)) (now (a .base)) (a .k) (a .choice) m e h (c .before .before .before .before .before .before .chosen-word .result) (c .before .before .before .before .before .before .before .before .before .before .before .before .before .before .ring-of .result) (c .before .before .before .before .before .before .chosen-word .ensures) (ring-rows (c .before .before .before .before .before .before .before .before .before .before .before .before .before .before)) (c .before .before .before .before .before .before .before .before .before .before .before .before .before .before .ring-of .ensures)
+
+mul-words : tie.Need-mul-words Inv-loop μ-loop
+mul-words c = search needs
+
+array-write-words : tie.Need-array-write-words Inv-loop μ-loop
+array-write-words c = low (c .before .before .before .before .before .before .before .before .before .before .before .before .before)
+
+add-e : tie.Need-add-e Inv-loop μ-loop
+add-e c = search needs
 
 loop-less : tie.Need-loop-less Inv-loop μ-loop
-loop-less c = omega (arith, c .before .before .before .before .before .before .before .before .before .before .before .before .before .before .before .before .before .before .before .before .before .before .before .before .before .before .before .before .before .before .before .before .before .before .before .before .before .before .before .before .before .before .before .before .loop-test .taken)
+loop-less c = search needs
 
 loop-again : tie.Need-loop-again Inv-loop μ-loop
 loop-again c =
-    let turn = c .before .before .before .before .before .before .before .before .before .before .before .before .before .before .before .before .before .before .before .before .before .before .before .before .before .before .before .before .before .before .before .before .before .before .before .before .before .before .before .before .before .before .before .before in
-    let s = turn .before .before .before .before .before .before .before .before .before .before .before .before .before .before .before .before .before .before .before .before .before .before .before .before .before in
-    let w = turn .before .loop .inv in
-    let plan = turn .before .before .before .before .before .before .before .before .before .before .before .before .before .before .before .before .before .before .before .before .before .plan-of .ensures in
-    let l = c .before .before .before .before .before .before .before .before .before .before .before .before .before .before .before .before .before .before .before .before .before .before .before .before .before .before .before .before .look-ahead in
-    starting-turn _ _ _ _ _ _ (s .pre) _ _ plan _ _ _ _ _ _ w (turn .loop-test .taken) _ (starting-holds _ _ _ _ _ _ (s .pre) _ _ plan _ _ _ _ _ _ w (turn .loop-test .taken) (plan-rows (turn .before .before .before .before .before .before .before .before .before .before .before .before .before .before .before .before .before .before .before .before .before) .2) _ (c .before .before .before .before .before .before .before .before .before .before .before .before .before .before .before .before .before .before .before .before .before .before .before .before .before .before .before .before .before .before .before .before .before .before .evaluate .ensures)) _ _ (l .ensures .0) (l .ensures .1) (l .kept .1 .1 .1 .1 .1 .1 .0 ∙ w .next-size)
-    _ (c .before .before .before .before .before .before .before .before .before .before .before .before .before .before .take-clock .kept .1 .1 .1 .1 .1 .1 .1 .1 .1 .1 .0) (c .before .before .before .before .before .before .before .before .before .before .before .before .before .before .take-clock .ensures) _ (c .before .turn .kept .1 .1 .1 .1 .1 .1 .0) (c .before .turn .ensures)
+    let a = c .before .before .before .before .before .before .before .before .before .before .before .before .before .before .before .before .before .before .before .args in
+    let m = c .before .before .before .before .before .before .before .before .before .before .before .before .before .before .before .before .before .before .before .pre in
+    let l = c .before .before .before .before .before .before .before .before .before .before .before .before .before .before .loop in
+    let e = l .e in
+    let h = c .before .before .before .before .before .before .before .before .before .before .before .before .before .loop-test .taken in
+    let new = c .filled .ensures (startAt (a .t1) (now (a .lab)) (a .choice) e)
+    (c .before .before .before .before .before .before .before .chosen-word .ensures ∙ chosen-found (a .t1) (now (a .lab)) (now (a .counts)) (now (a .base)) (a .k) (a .choice) m e h) (shown-found (a .t1) (now (a .lab)) (now (a .counts)) (now (a .base)) (a .k) (a .choice) m e h (c .before .before .before .before .before .before .before .before .before .before .before .before .before .before .before .ring-of .result) (c .before .before .before .before .before .before .before .before .before .before .before .before .before .before .before .ring-of .ensures)) in (
+      omega arith,
+      length-set (l .words) e (c .filled .result) ∙ l .inv .1,
+      filled-more (startsAt (a .t1) (now (a .lab)) (now (a .counts)) (a .choice)) none (l .words) e (c .filled .result) (omega (arith, low (c .before .before .before .before .before .before .before .before .before .before .before .before .before), l .inv .1)) new (l .inv .2),
+    )
 
 returns : tie.Need-returns Inv-loop μ-loop
-returns c = starting-end _ _ _ _ _ _ (c .before .before .before .before .before .before .before .before .before .before .before .before .before .before .before .before .before .before .before .before .before .before .before .before .before .pre) _ _ (c .before .before .before .before .before .before .before .before .before .before .before .before .before .before .before .before .before .clocks-wanted .ensures .1) _ _ _ _ _ _ (c .loop-test .left) (c .before .loop .inv)
+returns c =
+    let a = c .before .before .before .before .before .before .args in
+    let l = c .before .loop in
+    subst (λ n. Filled (startsAt (a .t1) (now (a .lab)) (now (a .counts)) (a .choice)) none n (l .words)) (let z : l .e ≡ a .t1 .edges = omega arith in z) (l .inv .2)
 
 pub starts-of-spec : {M : Type 1} → statement M
 starts-of-spec =
@@ -167,26 +175,37 @@ starts-of-spec =
     Inv-loop
     μ-loop
     cast-edges
-    plan-of-requires
-    clocks-wanted-requires
-    chosen-words-requires
-    empty-requires
-    slice-aggregate-place
-    place-requires
+    ring-of-requires
     loop-holds
-    slice-aggregate-evaluate
-    mul-evaluate
-    slice-aggregate-evaluate-2
-    evaluate-requires
-    slice-aggregate-look-ahead
-    look-ahead-requires
-    slice-aggregate-take-clock
-    slice-aggregate-take-clock-2
-    slice-aggregate-take-clock-3
-    take-clock-requires
-    slice-aggregate-turn
-    turn-requires
-    add-s
+    mul-v
+    element-copy-out-v
+    cast-v
+    add-chosen
+    mul-chosen
+    shared-slice-read-chosen
+    mul-chosen-2
+    shared-slice-read-chosen-2
+    sub-chosen
+    mul-chosen-word
+    shared-slice-read-chosen-word
+    add-chosen-word
+    mul-chosen-word-2
+    shared-slice-read-chosen-word-2
+    chosen-word-requires
+    mul-filled
+    shared-slice-read-filled
+    mul-filled-2
+    shared-slice-read-filled-2
+    mul-filled-3
+    element-copy-out-filled
+    element-copy-out-filled-2
+    mul-filled-4
+    element-copy-out-filled-3
+    slice-aggregate-filled
+    filled-requires
+    mul-words
+    array-write-words
+    add-e
     loop-less
     loop-again
     returns)

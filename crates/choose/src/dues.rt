@@ -1,0 +1,121 @@
+// What the moved netlist's cells must give: the old start values that it has to carry. A due is a number, 2 i + x: cell i must give x.
+// Private to the crate: `choose` puts them together.
+use graph::sort_by;
+use moves::up_of;
+use netlist::Netlist;
+ghost use mathlib.Core.Path.{_≡_};
+ghost use Prim.Native.Nat.{ℕ, _+_, _*_, _-_, _≤_, _<_};
+ghost use lib.ListN.{length};
+ghost use Rattle.graph.specs.Columns.{at};
+ghost use Rattle.search.specs.Program.{Owes};
+ghost use Rattle.moves.specs.Labels.{Labelled};
+ghost use Rattle.choose.specs.Numbers.{lagAt, Arranged};
+ghost use Rattle.choose.specs.Sources.{Appended};
+ghost use Rattle.choose.specs.Dues.{cellAt, Whole, Dues, dueAt, Celled};
+
+// k - r, and 0 where r is larger.
+fn less(k: u32, r: u32) -> u32
+    ensures { λ x. ⌜ x ≡ k - r ⌝ }
+{
+    if r < k { k - r } else { 0 }
+}
+
+// What is due of one edge that leaves node v, put from `start` on. The place after it.
+// "for each edge leaving a node v with positive lag and each old value s of that edge with s at least w − r(v), node v … gives that value at clock s − w + r(v)"
+fn append_dues(
+    v: usize,
+    lag: u32,
+    count: u32,
+    values: u32,
+    id: &[u16],
+    start: usize,
+    due: &mut [u16],
+) -> usize
+    requires { ⌜ (v < 512) × (lag ≤ 24) × (count ≤ 32) × (length (now id) ≡ 16384) × (start + 24 ≤ length (now due)) ⌝ }
+    requires { ⌜ ((t : ℕ) → t < lag → cellAt (now id) v t < 12288) ⌝ }
+    ensures { λ r. ⌜ r + (count - lag) ≡ start + count ⌝ }
+    ensures { λ r. ⌜ Appended (dueAt (now (id .entry)) v lag count values) (now (due .entry)) (now (due .exit)) (count - lag) count start ⌝ }
+{
+    let mut n = start;
+    let mut s = less(count, lag);
+    while s < count {
+        let spot = v * 32 + ((s + lag - count) as usize);
+        due[n] = id[spot] * 2 + ((values >> s) % 2) as u16;
+        n += 1;
+        s += 1;
+    }
+    n
+}
+
+// The place of each node in an order. (Only that it is a place is promised: whatever the order, the same values are due.)
+fn places_of(order: &[u16], nodes: usize) -> [u16; 512]
+    requires { ⌜ Arranged (now order) nodes ⌝ }
+    ensures { λ r. ⌜ ((v : ℕ) → v < nodes → at r v < nodes) ⌝ }
+{
+    let mut place = [0u16; 512];
+    let mut p = 0;
+    while p < nodes {
+        let v = order[p] as usize;
+        place[v] = p as u16;
+        p += 1;
+    }
+    place
+}
+
+// For each edge the place of the node that it leaves.
+fn keys_of(from: &[u16], edges: usize, place: &[u16]) -> [u16; 1024]
+    requires { ⌜ (edges ≤ 1024) × (edges ≤ length (now from)) × ((e : ℕ) → e < edges → at (now from) e < length (now place)) ⌝ }
+    ensures { λ r. ⌜ ((e : ℕ) → e < edges → at r e ≡ at (now (place .entry)) (at (now (from .entry)) e)) ⌝ }
+{
+    let mut key = [0u16; 1024];
+    let mut e = 0;
+    while e < edges {
+        let u = from[e] as usize;
+        key[e] = place[u];
+        e += 1;
+    }
+    key
+}
+
+// The edges in the evaluation order of the nodes that they leave.
+fn edges_along(from: &[u16], order: &[u16], nodes: usize, edges: usize) -> [u16; 1024]
+    requires { ⌜ Arranged (now order) nodes × (edges ≤ 1024) × (edges ≤ length (now from)) ⌝ }
+    requires { ⌜ ((e : ℕ) → e < edges → at (now from) e < nodes) ⌝ }
+    ensures { λ r. ⌜ Whole r edges ⌝ }
+{
+    let place = places_of(order, nodes);
+    let key = keys_of(from, edges, &place);
+    let mut along = [0u16; 1024];
+    let mut begin = [0u16; 513];
+    sort_by(&key, edges, nodes, &mut along, &mut begin);
+    along
+}
+
+// What is due, edge by edge, in the evaluation order of the nodes that they leave: the search then looks at a value soon after it is evaluated.
+pub fn dues_of(
+    net: Netlist,
+    lab: &[u32],
+    order: &[u16],
+    id: &[u16],
+    due: &mut [u16],
+    begin: &mut [u16],
+)
+    requires { ⌜ Labelled net (now lab) × Arranged (now order) (net .nodes) × Celled (lagAt (now lab)) (net .nodes) 12288 (now id) ⌝ }
+    requires { ⌜ (length (now due) ≡ 24576) × (length (now begin) ≡ 1025) ⌝ }
+    ensures { λ _. ⌜ Owes 12288 (now (due .exit)) (now (begin .exit)) (net .edges) ⌝ }
+    ensures { λ _. ⌜ Dues net (lagAt (now (lab .entry))) (cellAt (now (id .entry))) (now (due .exit)) (at (now (begin .exit)) (net .edges)) ⌝ }
+{
+    let edges = net.edges as usize;
+    let along = edges_along(&net.from, order, net.nodes as usize, edges);
+    begin[0] = 0;
+    let mut n = 0;
+    let mut p = 0;
+    while p < edges {
+        let e = along[p] as usize;
+        let v = net.from[e] as usize;
+        let lag = up_of(lab[v]);
+        n = append_dues(v, lag, net.count[e] as u32, net.start[e], id, n, due);
+        p += 1;
+        begin[p] = n as u16;
+    }
+}

@@ -1,2 +1,0 @@
--- Answers as numbers, for programs in other languages.
-pub mod Code

@@ -1,0 +1,2 @@
+-- The laws of the exported calls: the theorems of specs/Theorems.
+pub mod Theorems

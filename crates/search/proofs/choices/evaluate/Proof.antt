@@ -1,0 +1,110 @@
+-- `search::choices::evaluate` meets its contract: the cells below i are evaluated, under whatever choice those below `start` were.
+-- Assumes nothing.
+use Prim.Native.Nat.{_+_, _-_, _≤_, _<_}
+use mathlib.Core.Path.{sym, _∙_}
+use native.Mathlib.Omega.{arith}
+use denote.Ref.{now}
+use Rattle.graph.specs.Columns.{at}
+use Rattle.search.specs.States.{Valued, Carried}
+use Rattle.search.proofs.States.{truth-next, valued-seen, valued-value, valued-more}
+use borrow.Author.Needs.{needs}
+use Rattle.search.proofs.choices.evaluate.Statement.{statement}
+use Rattle.search.proofs.choices.evaluate.Tie as tie
+
+abbrev Inv-loop : tie.InvT-loop
+Inv-loop truth index first operand start end sig₀ i₀ sig i = (start ≤ i) × Carried truth index first operand end start sig₀ i sig
+
+abbrev μ-loop : tie.MeasureT-loop
+μ-loop truth index first operand start end sig₀ i₀ sig i = end - i
+
+-- The signals are those of the choice that was asked for.
+held : (c : tie.At-loop Inv-loop μ-loop) → Valued (c .before .before .before .before .before .before .pre .cells) (c .before .before .before .before .before .before .pre .k) (c .before .before .before .before .before .before .pre .kind) (now (c .before .before .before .before .before .before .args .first)) (now (c .before .before .before .before .before .before .args .operand)) (c .before .before .before .before .before .before .pre .choice) (c .loop .i) (c .loop .sig)
+held c = let s = c .before .before .before .before .before .before .pre in c .loop .inv .1 (s .cells) (s .k) (s .choice) (s .kind) (s .ready) (s .within) (s .valued)
+
+loop-holds : tie.Need-loop-holds Inv-loop μ-loop
+loop-holds c = (omega arith, λ cells k n kind r h v. v)
+
+mul-lo : tie.Need-mul-lo Inv-loop μ-loop
+mul-lo c = search needs
+
+shared-slice-read-lo : tie.Need-shared-slice-read-lo Inv-loop μ-loop
+shared-slice-read-lo c = search needs
+
+cast-lo : tie.Need-cast-lo Inv-loop μ-loop
+cast-lo c = omega (arith, c .shared-slice-known5 .given (c .before .before .loop .i))
+
+add-hi : tie.Need-add-hi Inv-loop μ-loop
+add-hi c = search needs
+
+mul-hi : tie.Need-mul-hi Inv-loop μ-loop
+mul-hi c = search needs
+
+shared-slice-read-hi : tie.Need-shared-slice-read-hi Inv-loop μ-loop
+shared-slice-read-hi c = search needs
+
+cast-hi : tie.Need-cast-hi Inv-loop μ-loop
+cast-hi c = omega (arith, c .shared-slice-known6 .given (c .before .before .before .loop .i + 1))
+
+mul-value : tie.Need-mul-value Inv-loop μ-loop
+mul-value c = search needs
+
+shared-slice-read-value : tie.Need-shared-slice-read-value Inv-loop μ-loop
+shared-slice-read-value c = search needs
+
+value-requires : tie.Need-value-requires Inv-loop μ-loop
+value-requires c κs =
+    let s = c .before .before .before .before .before .before .before .before .before .before .before .pre in
+    (s .ready .table, valued-seen (s .ready) (held (c .before .before .before .before .before)) (omega (arith, s .within, c .before .before .before .before .loop-test .taken)))
+
+add-sig : tie.Need-add-sig Inv-loop μ-loop
+add-sig c = search needs
+
+slice-write-sig : tie.Need-slice-write-sig Inv-loop μ-loop
+slice-write-sig c = omega (arith, held (c .before .before .before .before .before .before) .size, c .before .before .before .before .before .before .before .before .before .before .before .before .pre .within, c .before .before .before .before .before .before .before .before .before .before .before .before .pre .ready .program .few-cells)
+
+add-i : tie.Need-add-i Inv-loop μ-loop
+add-i c = search needs
+
+loop-less : tie.Need-loop-less Inv-loop μ-loop
+loop-less c = search needs
+
+loop-again : tie.Need-loop-again Inv-loop μ-loop
+loop-again c =
+    let l = c .before .before .before .before .before .before .loop in (
+      omega (arith, l .inv .0),
+      λ cells k n kind r h v.
+          let w = l .inv .1 cells k n kind r h v in
+          let q : l .i < cells = omega (arith, c .before .before .before .before .before .loop-test .taken) in
+          valued-more r w q (valued-value r w q (c .value .ensures .1 (at kind (l .i)) (truth-next r q))),
+    )
+
+same-length : tie.Need-same-length Inv-loop μ-loop
+same-length c = held (c .before) .size ∙ sym (c .before .before .before .before .before .before .before .pre .valued .size)
+
+returns : tie.Need-returns Inv-loop μ-loop
+returns c = record { after = c .before .loop .inv .0; reached = c .loop-test .left; carried = c .before .loop .inv .1 }
+
+pub evaluate-spec : {M : Type 1} → statement M
+evaluate-spec =
+    tie.close
+    (tie.spec
+    Inv-loop
+    μ-loop
+    loop-holds
+    mul-lo
+    shared-slice-read-lo
+    cast-lo
+    add-hi
+    mul-hi
+    shared-slice-read-hi
+    cast-hi
+    mul-value
+    shared-slice-read-value
+    value-requires
+    add-sig
+    slice-write-sig
+    add-i
+    loop-less
+    loop-again
+    same-length
+    returns)

@@ -1,0 +1,2 @@
+-- What the program `run` prints of a run.
+pub mod Printed

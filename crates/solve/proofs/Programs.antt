@@ -1,0 +1,219 @@
+-- The program under the new numbers gives the same.
+--   mapped-same         what two parts of lists are mapped to, place by place
+--   program-wired, program-bits     what the numbering asks of a program
+--   operand-old         an operand of a cell stands at the same place of the row of its old number
+--   new-program         it is a right program
+--   new-levelled        its cells stand by level
+--   value-same          a cell has the value that it had under its old number
+--   new-owes, holds-new, holds-old     the dues ask the same of the same cells
+--   search-ready        so it can be searched
+--   solves-old          the smallest choice is the same
+-- Why values are the same, by induction on the new number: an operand is a chosen bit, which stays, or a cell, which has a smaller number.
+-- Assumes nothing.
+use Prim.Native.Nat.{ℕ, zero, suc, _+_, _-_, _/_, _%_, _≤_, _<_}
+use native.Mathlib.Omega.{arith}
+use mathlib.Core.Path.{_≡_, refl, sym, ap, ap₂, _∙_}
+use mathlib.Core.Bool.{Bool, true, false}
+use mathlib.Core.Logic.{_⊎_, inl, inr, ⊎-elim}
+use mathlib.Core.List.{List, _∷_, map}
+use lib.ListN.{length, take, drop}
+use lib.Seq.{drop-cons}
+use Rattle.theory.specs.Gate.{gate}
+use Rattle.graph.specs.Columns.{at}
+use Rattle.search.specs.Program.{look, valuesTo, valueAt, Program, Owes, Holds, Solves, Levelled}
+use Rattle.solve.specs.Parts.{Wired, Bits}
+use Rattle.solve.specs.Numbers.{Ranked, ins, moved, Renumbered, Redue}
+use Rattle.search.proofs.Values.{look-bit, look-cell, values-at, value-gate}
+use Rattle.solve.proofs.Renumbering.{moved-bit, moved-cell, renumbered-room}
+
+mapped-same : (f g : ℕ → ℕ) (xs ys : List ℕ) (n a b : ℕ) → a + n ≤ length xs → b + n ≤ length ys
+    → ((t : ℕ) → t < n → f (at xs (a + t)) ≡ g (at ys (b + t))) → map f (take n (drop a xs)) ≡ map g (take n (drop b ys))
+mapped-same f g xs ys zero a b h l w = refl
+mapped-same f g xs ys (suc n) a b h l w =
+    rw (drop-cons xs a 0 (omega arith), drop-cons ys b 0 (omega arith))
+    (ap₂ _∷_ (here (w 0 (omega arith)))
+    (mapped-same f g xs ys n (suc a) (suc b) (omega arith) (omega arith)
+    (λ t m. ap (λ i. f (at xs i)) (let z : suc a + t ≡ a + suc t = omega arith in z) ∙ w (suc t) (omega arith) ∙ ap (λ i. g (at ys i)) (let z : b + suc t ≡ suc b + t = omega arith in z))))
+  where
+    here : f (at xs (a + 0)) ≡ g (at ys (b + 0)) → f (at xs a) ≡ g (at ys b)
+    here q = ap (λ i. f (at xs i)) (let z : a ≡ a + 0 = omega arith in z) ∙ q ∙ ap (λ i. g (at ys i)) (let z : b + 0 ≡ b = omega arith in z)
+
+pub program-wired : {cells k : ℕ} {kind first operand : List ℕ} → Program cells k kind first operand → Wired cells first operand
+program-wired f = record {
+  few-cells = f .few-cells;
+  first-rows = f .first-rows;
+  in-rows = f .in-rows;
+  earlier = λ i j h a b. ⊎-elim (λ w. omega (arith, f .few-bits)) (λ w. w .1) (f .earlier i j h a b);
+}
+
+pub program-bits : {cells k : ℕ} {kind first operand : List ℕ} → Program cells k kind first operand → Bits cells k first operand
+program-bits f i j h a b l = ⊎-elim (λ w. w) (λ w. omega arith) (f .earlier i j h a b)
+
+module _ {cells k : ℕ} {kind first operand id code levels kinds firsts operands : List ℕ} (f : Program cells k kind first operand)
+    (r : Ranked cells k first operand id code levels) (s : Renumbered cells kind first operand id code kinds firsts operands)
+    (fits : (i : ℕ) → i < cells → at first (suc i) ≤ length operands) where
+  cell : (q : ℕ) → q < cells → at code q < cells
+  cell q h = r .paired .cell q h
+
+  -- ── A right program ─────────────────────────────────────────────────────────────────────────
+
+  -- The place in the old row.
+  old : ℕ → ℕ → ℕ
+  old q j = at first (at code q) + (j - at firsts q)
+
+  old-in : (q j : ℕ) → q < cells → at firsts q ≤ j → j < at firsts (suc q) → (at first (at code q) ≤ old q j) × (old q j < at first (suc (at code q)))
+  unfolding old
+  old-in q j h a b = (omega arith, omega (arith, s .counts q h))
+
+  operand-old : (q j : ℕ) → q < cells → at firsts q ≤ j → j < at firsts (suc q) → at operands j ≡ moved id (at operand (old q j))
+  unfolding old
+  operand-old q j h a b =
+      ap (at operands) (let z : j ≡ at firsts q + (j - at firsts q) = omega arith in z) ∙ s .same-operand q (j - at firsts q) h (omega (arith, s .counts q h))
+
+  new-rows : (q : ℕ) → q < cells → at firsts (suc q) ≤ length operands
+  new-rows q h =
+      omega (
+        arith,
+        s .counts q h,
+        renumbered-room s q (length operands) (omega arith) h (f .rising) (r .paired) fits,
+      )
+
+  new-earlier : (q j : ℕ) → q < cells → at firsts q ≤ j → j < at firsts (suc q) → (at operands j < k) ⊎ ((32 ≤ at operands j) × (at operands j < 32 + q))
+  new-earlier q j h a b = go (f .earlier (at code q) (old q j) (cell q h) (p .0) (p .1))
+    where
+      p : (at first (at code q) ≤ old q j) × (old q j < at first (suc (at code q)))
+      p = old-in q j h a b
+
+      go : (at operand (old q j) < k) ⊎ ((32 ≤ at operand (old q j)) × (at operand (old q j) < 32 + at code q))
+          → (at operands j < k) ⊎ ((32 ≤ at operands j) × (at operands j < 32 + q))
+      go (inl w) = inl (let z : at operands j < k = omega (arith, operand-old q j h a b, moved-bit id (at operand (old q j)) (omega (arith, f .few-bits))) in z)
+      go (inr w) =
+          let e = operand-old q j h a b ∙ moved-cell id (at operand (old q j)) (w .0) in
+          let l = r .sources (at code q) (old q j) (cell q h) (p .0) (p .1) (w .0) in
+          inr (omega (arith, e), omega (arith, e, r .paired .number q h))
+
+  new-program : cells ≤ length kinds → suc cells ≤ length firsts → Program cells k kinds firsts operands
+  new-program kind-rows first-rows = record {
+    few-bits = f .few-bits;
+    few-cells = f .few-cells;
+    kind-rows = kind-rows;
+    first-rows = first-rows;
+    gates = λ q h. omega (arith, s .same-kind q h, f .gates (at code q) (cell q h));
+    rising = λ q h. omega (arith, s .counts q h);
+    few-ins = λ q h. omega (arith, s .counts q h, f .few-ins (at code q) (cell q h));
+    in-rows = new-rows;
+    earlier = new-earlier;
+  }
+
+  new-sees : (m q j : ℕ) → m ≤ k → q < at levels (suc m) → at firsts q ≤ j → j < at firsts (suc q) → at operands j < 32 → at operands j < m
+  new-sees m q j h l a b w =
+      let c : q < cells = omega (arith, r .within (suc m) (omega arith)) in
+      let p = old-in q j c a b in
+      go c (p .0) (p .1) (f .earlier (at code q) (old q j) (cell q c) (p .0) (p .1))
+    where
+      go : q < cells → at first (at code q) ≤ old q j → old q j < at first (suc (at code q))
+          → (at operand (old q j) < k) ⊎ ((32 ≤ at operand (old q j)) × (at operand (old q j) < 32 + at code q)) → at operands j < m
+      go c u v (inl y) =
+          let small : at operand (old q j) < 32 = omega (arith, f .few-bits) in
+          omega (arith, operand-old q j c a b, moved-bit id (at operand (old q j)) small, r .sees m q (old q j) h l u v small)
+      go c u v (inr y) = absurd (let z : ⊥ = omega (arith, operand-old q j c a b, moved-cell id (at operand (old q j)) (y .0)) in z)
+
+  new-levelled : suc k < length levels → Levelled cells k firsts operands levels
+  new-levelled rows = record { rows = rows; none = r .none; climbs = r .climbs; whole = r .whole; sees = new-sees }
+
+  -- ── The same values ─────────────────────────────────────────────────────────────────────────
+
+  module _ (c : ℕ) where
+    value : ℕ → ℕ
+    value i = valueAt kind first operand k c i
+
+    new-value : ℕ → ℕ
+    new-value q = valueAt kinds firsts operands k c q
+
+    look-same : (q t : ℕ) → q < cells → t < ins first (at code q) → ((p : ℕ) → p < q → new-value p ≡ value (at code p))
+        → look k c (valuesTo kinds firsts operands k c q) (at operands (at firsts q + t))
+        ≡ look k c (valuesTo kind first operand k c (at code q)) (at operand (at first (at code q) + t))
+    unfolding value new-value
+    look-same q t h l before =
+        ap (look k c (valuesTo kinds firsts operands k c q)) (s .same-operand q t h l)
+        ∙ go (f .earlier (at code q) (at first (at code q) + t) (cell q h) (omega arith) (omega arith))
+      where
+        go : (at operand (at first (at code q) + t) < k) ⊎ ((32 ≤ at operand (at first (at code q) + t)) × (at operand (at first (at code q) + t) < 32 + at code q))
+            → look k c (valuesTo kinds firsts operands k c q) (moved id (at operand (at first (at code q) + t)))
+            ≡ look k c (valuesTo kind first operand k c (at code q)) (at operand (at first (at code q) + t))
+        go (inl w) =
+            let y = at operand (at first (at code q) + t) in
+            let small : y < 32 = omega (arith, f .few-bits) in
+            ap (look k c (valuesTo kinds firsts operands k c q)) (moved-bit id y small)
+            ∙ look-bit k c (valuesTo kinds firsts operands k c q) y small
+            ∙ sym (look-bit k c (valuesTo kind first operand k c (at code q)) y small)
+        go (inr w) =
+            let y = at operand (at first (at code q) + t) in
+            let n = at id (y - 32) in
+            let low : n < q =
+            omega (arith, r .sources (at code q) (at first (at code q) + t) (cell q h) (omega arith) (omega arith) (w .0), r .paired .number q h) in
+            ap (look k c (valuesTo kinds firsts operands k c q)) (moved-cell id y (w .0))
+            ∙ look-cell k c (valuesTo kinds firsts operands k c q) (32 + n) (omega arith)
+            ∙ ap (at (valuesTo kinds firsts operands k c q)) (let z : 32 + n - 32 ≡ n = omega arith in z)
+            ∙ values-at kinds firsts operands k c q n low
+            ∙ before n low
+            ∙ ap (valueAt kind first operand k c) (r .paired .each (y - 32) (omega (arith, cell q h)) .1)
+            ∙ sym (values-at kind first operand k c (at code q) (y - 32) (omega arith))
+            ∙ sym (look-cell k c (valuesTo kind first operand k c (at code q)) y (w .0))
+
+    new-same : (n q : ℕ) → q < n → q < cells → new-value q ≡ value (at code q)
+    unfolding value new-value
+    new-same zero q l h = absurd (let z : ⊥ = omega arith in z)
+    new-same (suc n) q l h =
+        let i = at code q in
+        let z : at firsts (suc q) - at firsts q ≡ ins first i = omega (arith, s .counts q h) in
+        value-gate kinds firsts operands k c q
+        ∙ ap₂ (λ g m. gate g (map (look k c (valuesTo kinds firsts operands k c q)) (take m (drop (at firsts q) operands)))) (s .same-kind q h) z
+        ∙ ap (gate (at kind i))
+        (mapped-same (look k c (valuesTo kinds firsts operands k c q)) (look k c (valuesTo kind first operand k c i)) operands operand (ins first i) (at firsts q) (at first i)
+        (omega (arith, s .counts q h, new-rows q h)) (omega (arith, f .rising i (cell q h), f .in-rows i (cell q h)))
+        (λ t m. look-same q t h m (λ p o. new-same n p (omega arith) (omega arith))))
+        ∙ sym (value-gate kind first operand k c i)
+
+    value-same : (i : ℕ) → i < cells → valueAt kinds firsts operands k c (at id i) ≡ valueAt kind first operand k c i
+    unfolding value new-value
+    value-same i h =
+        let e = r .paired .each i h in
+        new-same (suc (at id i)) (at id i) (omega arith) (e .0) ∙ ap (valueAt kind first operand k c) (e .1)
+
+  -- ── The same dues ───────────────────────────────────────────────────────────────────────────
+
+  module _ {due begin : List ℕ} {edges : ℕ} (dues : List ℕ) (o : Owes cells due begin edges) (d : Redue id (at begin edges) due dues) where
+    due-cell : (x : ℕ) → x < at begin edges → at dues x / 2 ≡ at id (at due x / 2)
+    due-cell x h = omega (arith, d x h)
+
+    due-bit : (x : ℕ) → x < at begin edges → at dues x % 2 ≡ at due x % 2
+    due-bit x h = omega (arith, d x h)
+
+    new-owes : at begin edges ≤ length dues → Owes cells dues begin edges
+    new-owes rows = record {
+      begin-rows = o .begin-rows;
+      due-rows = rows;
+      few = o .few;
+      none = o .none;
+      rising = o .rising;
+      cell = λ x h. omega (arith, due-cell x h, r .paired .each (at due x / 2) (o .cell x h));
+    }
+
+    value-due : (c x : ℕ) → x < at begin edges → valueAt kinds firsts operands k c (at dues x / 2) ≡ valueAt kind first operand k c (at due x / 2)
+    value-due c x h = ap (valueAt kinds firsts operands k c) (due-cell x h) ∙ value-same c (at due x / 2) (o .cell x h)
+
+    holds-old : (c : ℕ) → Holds k kinds firsts operands dues (at begin edges) c → Holds k kind first operand due (at begin edges) c
+    holds-old c w x h = sym (due-bit x h) ∙ w x h ∙ value-due c x h
+
+    holds-new : (c : ℕ) → Holds k kind first operand due (at begin edges) c → Holds k kinds firsts operands dues (at begin edges) c
+    holds-new c w x h = due-bit x h ∙ w x h ∙ sym (value-due c x h)
+
+    pub solves-old : (found : Bool) (c : ℕ) → Solves k kinds firsts operands dues (at begin edges) found c → Solves k kind first operand due (at begin edges) found c
+    solves-old true c w = (w .0, holds-old c (w .1), λ e l v. w .2 e l (holds-new e v))
+    solves-old false c w = λ e l v. w e l (holds-new e v)
+
+    -- In the words of `search`, which counts the cells by the end of the last level.
+    pub search-ready : cells ≤ length kinds → suc cells ≤ length firsts → suc k < length levels → at begin edges ≤ length dues
+        → let n = at levels (suc k) in Program n k kinds firsts operands × (Levelled n k firsts operands levels × Owes n dues begin edges)
+    search-ready kind-rows first-rows level-rows due-rows = rw (r .whole) (new-program kind-rows first-rows, (new-levelled level-rows, new-owes due-rows))

@@ -1,0 +1,50 @@
+-- The edges by the node that they enter.
+--   Entering            where those of each node stand, and that they are the netlist's
+--   entering            so after sorting
+--   part-map, map-at    a part of a list through a function; a member
+-- Assumes nothing.
+use Prim.Native.Nat.{ℕ, zero, suc, _+_, _<_, _≤_}
+use native.Mathlib.Omega.{arith}
+use mathlib.Core.Path.{_≡_, refl, ap₂}
+use mathlib.Core.List.{List, [], _∷_, map}
+use lib.ListN.{length, take, drop}
+use lib.Seq.{drop-cons}
+use Rattle.theory.specs.Clock.{gather}
+use Rattle.graph.specs.Columns.{at}
+use Rattle.graph.specs.Sort.{Sorts}
+use Rattle.gates.specs.Gates.{part}
+use Rattle.netlist.specs.declared.Netlist.{Netlist}
+use Rattle.simulate.specs.Ran.{Steppable}
+use Rattle.simulate.proofs.Seen.{ins-edge, first-rises, first-low, seen-count, seen-signals}
+use Rattle.simulate.proofs.Plans.{fan-low}
+
+pub record Entering (net : Netlist) (ins first : List ℕ) : Type 0 where
+  pub rising : (v : ℕ) → v < net .nodes → at first v ≤ at first (suc v)
+  pub within : (v : ℕ) → v < net .nodes → at first (suc v) ≤ net .edges
+  pub few : (v : ℕ) → v < net .nodes → at first (suc v) ≤ at first v + 8
+  pub edge : (k : ℕ) → k < net .edges → at ins k < net .edges
+  pub its : (f : ℕ → ℕ) (sees : List ℕ) → net .edges ≤ length sees → ((k : ℕ) → k < net .edges → at sees k ≡ f (at ins k))
+      → (v : ℕ) → v < net .nodes → part sees (at first v) (at first (suc v)) ≡ gather (at (net .to)) f v (net .edges)
+
+pub entering : (net : Netlist) → Steppable net → {old ins first : List ℕ} → net .edges ≤ length old
+    → Sorts (net .to) (net .edges) (net .nodes) old ins first → Entering net ins first
+entering net ok room s = record {
+  rising = first-rises net (ok .fit) room s;
+  within = λ v h. first-low net (ok .fit) room s (suc v) h;
+  few = λ v h. omega (arith, seen-count net (ok .fit) room s v h, fan-low net (ok .fans) v h, first-rises net (ok .fit) room s v h);
+  edge = ins-edge net (ok .fit) room s;
+  its = seen-signals net (ok .fit) room s;
+}
+
+-- Over a stretch the one list has f of the other's.
+pub part-map : (f : ℕ → ℕ) (xs ys : List ℕ) (n b : ℕ) → b + n ≤ length xs → b + n ≤ length ys → ((k : ℕ) → b ≤ k → k < b + n → at ys k ≡ f (at xs k))
+    → take n (drop b ys) ≡ map f (take n (drop b xs))
+part-map f xs ys zero b h l w = refl
+part-map f xs ys (suc n) b h l w =
+    rw (drop-cons xs b 0 (omega arith), drop-cons ys b 0 (omega arith))
+    (ap₂ _∷_ (w b (omega arith) (omega arith)) (part-map f xs ys n (suc b) (omega arith) (omega arith) (λ k a m. w k (omega arith) (omega arith))))
+
+pub map-at : (f : ℕ → ℕ) (xs : List ℕ) (k : ℕ) → k < length xs → at (map f xs) k ≡ f (at xs k)
+map-at f [] k h = absurd (omega arith)
+map-at f (x ∷ xs) zero h = refl
+map-at f (x ∷ xs) (suc k) h = map-at f xs k (omega arith)

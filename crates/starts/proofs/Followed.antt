@@ -1,0 +1,157 @@
+-- The loop over the clocks: what is ready before it, what holds before each clock, and one clock.
+--   Ready               the columns of the netlist, its edges by the node that they enter, its truth words, the table
+--   Following           before clock s: the list is right for it, the cells are for the clock before, the ring holds what is needed
+--   following-start     before clock 0
+--   following-list      the list, looked through
+--   following-turns     the cells can be found
+--   following-truths    their truth words are those of the kinds
+--   following-evaluable the nodes can be evaluated
+--   following-next      one clock
+-- Assumes nothing.
+use Prim.Native.Nat.{ℕ, suc, _+_, _*_, _-_, _/_, _%_, _<_, _≤_}
+use native.Mathlib.Omega.{arith}
+use mathlib.Core.Path.{_≡_, subst}
+use mathlib.Core.Logic.{_⊎_}
+use mathlib.Core.List.{List}
+use lib.ListN.{length}
+use Rattle.graph.specs.Columns.{at}
+use Rattle.graph.specs.Sort.{Ordered}
+use Rattle.gates.specs.Gates.{Reckons, Table, evaluated, Evaluable, Truths}
+use Rattle.netlist.specs.declared.Netlist.{Netlist}
+use Rattle.simulate.specs.Ran.{Steppable}
+use Rattle.moves.specs.Labels.{Labelled}
+use Rattle.moves.proofs.Labels.{from-node, low-nodes, low-edges}
+use Rattle.starts.specs.Ring.{row, Asked, Empty, Cells, CellsOf, CellableOf, Kept}
+use Rattle.starts.proofs.Cells.{cell-in}
+use Rattle.starts.proofs.Entering.{Entering}
+use Rattle.starts.proofs.Listed.{Listed, listed-start, listed-next, Refreshed, refreshed}
+use Rattle.starts.proofs.Held.{edge-width, Held, held-start, held-next}
+
+pub record Ready (net : Netlist) (lab ins first truth index : List ℕ) : Type 0 where
+  pub steppable : Steppable net
+  pub labelled : Labelled net lab
+  pub net-rows : (length (net .from) ≡ 1024) × (length (net .count) ≡ 1024) × (length (net .start) ≡ 1024)
+  pub rows : (length ins ≡ 1024) × (length first ≡ 513) × (length truth ≡ 512)
+  pub entering : Entering net ins first
+  pub truths : (v : ℕ) → v < net .nodes → Reckons (at (net .kind) v) (at first (suc v) - at first v) (at truth v)
+  pub table : Table index
+
+pub record Following (net : Netlist) (lab ins first truth index : List ℕ) (clocks s : ℕ) (list : List ℕ) (n : ℕ) (cells ring : List ℕ) : Type 0 where
+  pub ready : Ready net lab ins first truth index
+  pub clocks-low : clocks ≤ 16384
+  pub low : s ≤ clocks
+  pub list-rows : length list ≡ 512
+  pub cell-rows : length cells ≡ 1024
+  pub listed : Listed net lab s list n
+  pub near : (i : ℕ) → i < n → 0 < s % 32 → s / 32 * 32 + at lab (at list i) < 16384
+  pub turned : (t : ℕ) → 32 ≤ t → t + 1 ≡ s → CellsOf list n first ins (net .from) (net .count) (net .start) t cells
+  pub held : Held net lab s ring
+
+module _ (net : Netlist) (lab ins first truth index : List ℕ) (clocks : ℕ) where
+  pub following-start : Ready net lab ins first truth index → clocks ≤ 16384 → (list cells ring : List ℕ) → length list ≡ 512 → length cells ≡ 1024 → length ring ≡ 32770 → Empty ring
+      → Ordered (net .nodes) (net .edges) (net .from) (net .to) (net .count) list → Following net lab ins first truth index clocks 0 list (net .nodes) cells ring
+  following-start ready h list cells ring p q r e o = record {
+    ready = ready;
+    clocks-low = h;
+    low = omega arith;
+    list-rows = p;
+    cell-rows = q;
+    listed = listed-start net lab list o;
+    near = λ i l z. absurd (let y : ⊥ = omega arith in y);
+    turned = λ t l z. absurd (let y : ⊥ = omega arith in y);
+    held = held-start net lab ring r e;
+  }
+
+  module _ (s : ℕ) (list : List ℕ) (n : ℕ) (cells ring : List ℕ) (w : Following net lab ins first truth index clocks s list n cells ring) (h : s < clocks) where
+    pub following-list : (s < 16384) × (n ≤ length list) × ((i : ℕ) → i < n → at list i < length lab)
+    following-list = (
+      omega (arith, w .clocks-low),
+      omega (arith, w .list-rows, w .listed .few, low-nodes net lab (w .ready .labelled)),
+      λ i l. omega (arith, w .listed .nodes-only i l, w .ready .labelled .rows),
+    )
+
+    module _ (new : List ℕ) (r : ℕ) (kept : ((0 < s % 32) × (r ≡ n) × (new ≡ list)) ⊎ Kept (Asked lab s) list n new r) (size : length new ≡ length list) where
+      fresh : Refreshed net lab s list n new r
+      fresh = refreshed net lab s list n new r (w .listed) (w .near) kept
+
+      in-nodes : (i : ℕ) → i < r → at new i < net .nodes
+      in-nodes = fresh .listed .nodes-only
+
+      few-nodes : net .nodes ≤ 512
+      few-nodes = low-nodes net lab (w .ready .labelled)
+
+      few-edges : net .edges ≤ 1024
+      few-edges = low-edges net lab (w .ready .labelled)
+
+      in-list : r ≤ length new
+      in-list = omega (arith, size, w .list-rows, fresh .listed .few, few-nodes)
+
+      cellable : CellableOf new r first ins (net .from) (net .count) (net .start) (net .edges)
+      cellable i l =
+          let en = w .ready .entering in
+          let k = w .ready .net-rows in (
+            omega (arith, in-nodes i l, few-nodes, w .ready .rows .1),
+            record {
+              up = en .rising (at new i) (in-nodes i l);
+              in-cells = en .within (at new i) (in-nodes i l);
+              in-ins = omega (arith, en .within (at new i) (in-nodes i l), few-edges, w .ready .rows .0);
+              edges = λ j a b.
+                  let e : at ins j < net .edges = en .edge j (omega (arith, en .within (at new i) (in-nodes i l))) in
+                  record {
+                    rows = (omega (arith, few-edges, k .0), omega (arith, few-edges, k .1), omega (arith, few-edges, k .2));
+                    source = omega (arith, from-node net lab (w .ready .labelled) (at ins j) e, few-nodes);
+                    width = edge-width net (w .ready .steppable .fit) (at ins j) e;
+                  };
+            },
+          )
+
+      pub following-turns : ((r ≤ length new) × (net .edges ≤ length cells))
+          × CellableOf new r first ins (net .from) (net .count) (net .start) (net .edges)
+          × ((t : ℕ) → 32 ≤ t → t + 1 ≡ s → CellsOf new r first ins (net .from) (net .count) (net .start) t cells)
+      following-turns = (
+        (in-list, omega (arith, few-edges, w .cell-rows)),
+        cellable,
+        λ t a q i l.
+            let f = fresh .from i l in
+            subst (λ v. Cells ins (net .from) (net .count) (net .start) t (at first v) (at first (suc v)) cells) (f .2) (w .turned t a q (f .0) (f .1)),
+      )
+
+      pub following-truths : Truths (net .kind) new truth first r
+      following-truths i l = w .ready .truths (at new i) (in-nodes i l)
+
+      module _ (cells′ : List ℕ) (cell-rows : length cells′ ≡ length cells) (right : CellsOf new r first ins (net .from) (net .count) (net .start) s cells′) where
+        pub following-evaluable : Evaluable new truth index first cells′ r (row s) ring
+        following-evaluable = record {
+          table = w .ready .table;
+          in-node = in-list;
+          placed = λ i l.
+              let en = w .ready .entering in
+              let v = in-nodes i l in
+              let c = cellable i l .1 in
+              record {
+                in-truth = omega (arith, v, few-nodes, w .ready .rows .2);
+                in-first = cellable i l .0;
+                in-size = omega (arith, v, few-nodes, w .held .size);
+                up = c .up;
+                in-list = omega (arith, c .in-cells, few-edges, w .cell-rows);
+                narrow = w .ready .truths (at new i) v .narrow;
+                signals = λ j a b.
+                    let e = at ins j in
+                    omega (arith, right i l j a b, cell-in (at (net .from) e) (at (net .count) e) (at (net .start) e) s (c .edges j a b .source), w .held .size);
+              };
+          bits = w .held .bits;
+        }
+
+        pub following-next : (ring′ : List ℕ) → ring′ ≡ evaluated (net .kind) new first cells′ (row s) r ring → Following net lab ins first truth index clocks (s + 1) new r cells′ ring′
+        following-next ring′ q = record {
+          ready = w .ready;
+          clocks-low = w .clocks-low;
+          low = omega arith;
+          list-rows = omega (arith, size, w .list-rows);
+          cell-rows = omega (arith, cell-rows, w .cell-rows);
+          listed = listed-next net lab s new r (fresh .listed);
+          near = λ i l z. omega (arith, fresh .near i l);
+          turned = λ t a z. subst (λ x. CellsOf new r first ins (net .from) (net .count) (net .start) x cells′) (let y : s ≡ t = omega arith in y) right;
+          held = held-next net lab (w .ready .steppable) (w .ready .labelled) ins first (w .ready .entering) s new r (fresh .listed) (fresh .near) cells′
+              (omega (arith, few-edges, w .ready .rows .0)) (omega (arith, few-edges, cell-rows, w .cell-rows)) right ring ring′ (w .held) q;
+        }
