@@ -1,6 +1,6 @@
 -- Labels and lags; the new counts and the chosen values by labels.
 --   up-high, up-low     the positive part of a label's lag
---   lag-word, lag-fits  two bytes hold it; it is a 32-bit number
+--   lag-fits            it is a 32-bit number
 --   new-fits, new-is    a new count by the labels of the edge's ends
 --   wide-edge, wide-none    the lowest count above 32 is retiming's
 --   all-more            one further
@@ -18,7 +18,7 @@ use mir.Val.{SFits}
 use lib.Dec.{ltb}
 use lib.IntN.{pos, negsuc}
 use lib.Signed.{mag}
-use Rattle.theory.specs.Lag.{up, down}
+use Rattle.theory.specs.Lag.{up}
 use Rattle.theory.specs.Move.{sum}
 use Rattle.theory.specs.Retimer.{TooWide, Narrow}
 use Rattle.theory.proofs.numbers.Whole.{no-down}
@@ -39,14 +39,6 @@ up-low l h = go (decLt 0 (up (lagOf l)))
     go : Dec (0 < up (lagOf l)) → 0 ≡ up (lagOf l)
     go (yes k) = absurd (let z : ⊥ = omega (arith, lag-label l, no-down (lagOf l) k) in z)
     go (no k) = omega arith
-
--- Two bytes hold it.
-pub lag-word : (l : ℕ) → l < 32768 → (up (lagOf l) < 32768) × (down (lagOf l) ≤ 32768)
-lag-word l h = go (decLt 0 (up (lagOf l)))
-  where
-    go : Dec (0 < up (lagOf l)) → (up (lagOf l) < 32768) × (down (lagOf l) ≤ 32768)
-    go (yes k) = (omega (arith, lag-label l, no-down (lagOf l) k), omega (arith, no-down (lagOf l) k))
-    go (no k) = (omega arith, omega (arith, lag-label l))
 
 -- A lag is a 32-bit number.
 mag-by : (a b : ℕ) (t : Bool) → mag (cond t (negsuc (b - suc a)) (pos (a - b))) ≤ a + b
