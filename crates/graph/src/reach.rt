@@ -1,6 +1,7 @@
 // Three questions about a graph: how many edges enter each node, whether there is a loop without a register, which nodes are reached.
 // Required: columns that are long enough, ends of edges that are nodes. Reading makes sure of both.
 use crate::chains::settle;
+use crate::sort::count_keys;
 ghost use mathlib.Core.Path.{_≡_};
 ghost use mathlib.Core.List.{List};
 ghost use Prim.Native.Nat.{ℕ, _≤_, _<_};
@@ -16,12 +17,7 @@ pub fn fan_ins<'a>(from: &'a [u16], to: &'a [u16], nodes: usize, edges: usize) -
     ensures { λ r. ⌜ ((kind : List ℕ) (v : ℕ) → v < nodes → at r v ≡ fan-in (graph nodes edges kind (now (from .entry)) (now (to .entry))) v) ⌝ }
 {
     let mut ins = [0u16; 512];
-    let mut e = 0;
-    while e < edges {
-        let v = to[e] as usize;
-        ins[v] = ins[v] + 1;
-        e += 1;
-    }
+    count_keys(to, edges, nodes, &mut ins);
     ins
 }
 
