@@ -209,10 +209,10 @@ module _ (net : Netlist) (ok : Sound gate (graphOf net) (regsOf net)) (r : ℕ �
 -- ── The program's answer ────────────────────────────────────────────────────────────────────
 
 module _ (net : Netlist) (ok : Sound gate (graphOf net) (regsOf net)) (r : ℕ → ℤ) (legal : Legal (graphOf net) (regsOf net .count) r)
-    {k cells : ℕ} {kind first operand due begin : List ℕ} (size : k ≡ chosenIn (graphOf net) (regsOf net .count) r)
-    (s : Standing net r k cells kind first operand due begin) where
+    {k cells rows : ℕ} {kind first operand due begin : List ℕ} (size : k ≡ chosenIn (graphOf net) (regsOf net .count) r)
+    (s : Standing net r k cells rows kind first operand due begin) where
   -- A choice of bits is, where it is looked at, a number below 2 ^ k (`choice-number`).
-  pub solved : (found : Bool) (c : ℕ) → Solves k kind first operand due (at begin (net .edges)) found c → Chooses net r found c
+  pub solved : (found : Bool) (c : ℕ) → Solves k kind first operand due (at begin rows) found c → Chooses net r found c
   solved true c a = record {
     small = subst (λ n. c < 2 ^ n) size (a .0);
     carried = s .holds c .0 (a .1);

@@ -146,9 +146,9 @@ module _ {net : Netlist} {lab counts base : List ℕ} {k : ℕ} (m : Moving net 
           few-operands (lagAt lab) order begin id code (net .nodes) (net .edges) cells (arranged (placed .rows) o) low-lag (low-edges net lab (m .labelled)) n
           (λ v h. places v h .0) (omega (arith, g .sorts .begins (net .nodes) (omega arith), sorted-room (net .to) (net .edges) (net .nodes)))
 
-      module _ (kind : List ℕ) {first operand due starts : List ℕ} (ks : (i : ℕ) → i < cells → at kind i ≡ at (net .kind) (at code i / 32))
-          (os : Operands (net .from) ins begin counts base id code cells first operand) (owes : Owes 12288 due starts (net .edges))
-          (ds : Dues net (lagAt lab) (cellAt id) due (at starts (net .edges)))
+      module _ (kind : List ℕ) {rows : ℕ} {first operand due starts : List ℕ} (ks : (i : ℕ) → i < cells → at kind i ≡ at (net .kind) (at code i / 32))
+          (os : Operands (net .from) ins begin counts base id code cells first operand) (owes : Owes 12288 due starts rows)
+          (ds : Dues net (lagAt lab) (cellAt id) due (at starts rows))
           (kind-rows : length kind ≡ 12288) (first-rows : length first ≡ 12289) (operand-rows : length operand ≡ 24576) where
         -- Where the operands of cell i begin and end.
         begins : (i : ℕ) → i < cells → (at first i ≡ sum (widthAt begin code) i) × (at first (suc i) ≡ sum (widthAt begin code) i + widthAt begin code i)
@@ -188,15 +188,15 @@ module _ {net : Netlist} {lab counts base : List ℕ} {k : ℕ} (m : Moving net 
           earlier = earlier;
         }
 
-        made : Compiled net (lagsOf lab) cells kind first operand due (at starts (net .edges)) (cellAt id)
+        made : Compiled net (lagsOf lab) cells kind first operand due (at starts rows) (cellAt id)
         made =
-            compiled net lab counts base order id code (g .old) ins begin kind first operand due cells (at starts (net .edges)) (m .labelled) (m .counted) (m .based) (arranged (placed .rows) o) low-lag n (g .room) (g .sorts) ks os
+            compiled net lab counts base order id code (g .old) ins begin kind first operand due cells (at starts rows) (m .labelled) (m .counted) (m .based) (arranged (placed .rows) o) low-lag n (g .room) (g .sorts) ks os
             (omega (arith, few-places)) ds
 
-        pub standing : Standing net (lagsOf lab) k cells kind first operand due starts
+        pub standing : Standing net (lagsOf lab) k cells rows kind first operand due starts
         standing = record {
           right = right;
-          owes = owes-cells net (lagAt lab) id due starts cells 12288 okay (from-node net lab (m .labelled)) owes ds;
+          owes = owes-cells net (lagAt lab) id due starts rows cells 12288 okay (from-node net lab (m .labelled)) owes ds;
           holds = compiled-holds net (m .sound) (lagsOf lab) (m .labelled .legal) made size right;
         }
 
@@ -211,12 +211,12 @@ module _ {net : Netlist} {lab counts base : List ℕ} {k : ℕ} (m : Moving net 
 
   -- ── The answer ────────────────────────────────────────────────────────────────────────────
 
-  pub stands : {cells : ℕ} {kind first operand due begin : List ℕ} → Standing net (lagsOf lab) (at base (net .edges)) cells kind first operand due begin
-      → Standing net (lagsOf lab) k cells kind first operand due begin
+  pub stands : {cells rows : ℕ} {kind first operand due begin : List ℕ} → Standing net (lagsOf lab) (at base (net .edges)) cells rows kind first operand due begin
+      → Standing net (lagsOf lab) k cells rows kind first operand due begin
   stands s = rw (m .chosen) s
 
-  pub chooses : {cells : ℕ} {kind first operand due begin : List ℕ} → Standing net (lagsOf lab) k cells kind first operand due begin
-      → (found : Bool) (c : ℕ) → Solves k kind first operand due (at begin (net .edges)) found c → Chooses net (lagsOf lab) found c
+  pub chooses : {cells rows : ℕ} {kind first operand due begin : List ℕ} → Standing net (lagsOf lab) k cells rows kind first operand due begin
+      → (found : Bool) (c : ℕ) → Solves k kind first operand due (at begin rows) found c → Chooses net (lagsOf lab) found c
   chooses s = solved net (m .sound) (lagsOf lab) (m .labelled .legal) size s
 
   -- No lag is positive then, so no old value is to be carried.

@@ -1,9 +1,10 @@
 -- Operands one by one.
 --   source-chosen, source-cell    the two cases of `sourceAt`
 --   appended-none, appended-more    one place further
+--   appended-cut        all places are put
 --   operands-none, operands-more    one cell further
 -- Assumes nothing.
-use Prim.Native.Nat.{ℕ, _+_, _/_, _%_, _≤_, _<_}
+use Prim.Native.Nat.{ℕ, _+_, _-_, _/_, _%_, _≤_, _<_}
 use native.Mathlib.Omega.{arith}
 use native.Mathlib.Decide.{ℕ-discrete}
 use mathlib.Core.Path.{_≡_, refl, sym, subst, ap, _∙_}
@@ -41,6 +42,11 @@ module _ (f : ℕ → ℕ) where
       go i m (yes y) =
           ap (at (set new n x)) (let z : start + i ≡ n = omega arith in z) ∙ getD-set-same new n x 0 h ∙ e ∙ ap f (sym y)
       go i m (no y) = getD-set-other new n (start + i) x 0 (let z : ¬ (start + i ≡ n) = λ w. omega arith in z) ∙ s .added i (omega arith)
+
+  -- All of those up to hi are put, which may be none.
+  pub appended-cut : (old new : List ℕ) (lo hi k start n : ℕ) → Appended f old new lo k start → lo ≤ k → hi ≤ k → k ≤ lo + (hi - lo) → n + lo ≡ start + k
+      → (n ≡ start + (hi - lo)) × Appended f old new lo hi start
+  appended-cut old new lo hi k start n s l h u q = (omega arith, record { rows = s .rows; kept = s .kept; added = λ i m. s .added i (omega arith) })
 
 module _ (from ins begin counts base id code : List ℕ) where
   pub operands-none : (first operand : List ℕ) → at first 0 ≡ 0 → Operands from ins begin counts base id code 0 first operand

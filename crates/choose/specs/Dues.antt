@@ -6,10 +6,12 @@
 --   dueAt               the same due, by the numbers that it is made of
 --   Celled              each node has a cell for each clock below its lag
 --   Whole               a list of edges that has each of them
+--   DuesTo              runs of clocks: the dues of all clocks below `low`, and of the first n edges of a list those below `high`, in so many rows
+--   FewRows             how many rows there are when all clocks below `low` are put, in runs that end at 1, 3, 7, 15 and 24
 -- Assumes nothing.
 use mathlib.Core.Path.{_≡_}
 use mathlib.Core.List.{List}
-use Prim.Native.Nat.{ℕ, _+_, _*_, _-_, _<_, _≤_}
+use Prim.Native.Nat.{ℕ, suc, _+_, _*_, _-_, _<_, _≤_}
 use lib.ListN.{length}
 use Rattle.graph.specs.Columns.{at, bit}
 use Rattle.graph.specs.Sort.{Stands}
@@ -50,3 +52,19 @@ pub record Celled (lag : ℕ → ℕ) (nodes cells : ℕ) (id : List ℕ) : Type
 pub record Whole (along : List ℕ) (edges : ℕ) : Type 0 where
   pub edges-only : (p : ℕ) → p < edges → at along p < edges
   pub every-edge : (e : ℕ) → e < edges → Stands along edges e
+
+pub record DuesTo (net : Netlist) (lag : ℕ → ℕ) (id along : List ℕ) (low high n rows : ℕ) (due begin : List ℕ) (total : ℕ) : Type 0 where
+  pub none : at begin 0 ≡ 0
+  pub rising : (e : ℕ) → e < rows → (at begin e ≤ at begin (suc e)) × (at begin (suc e) ≤ at begin e + 24)
+  pub last : at begin rows ≡ total
+  pub few : total ≤ 1024 * low + n * (high - low)
+  pub sound : (x : ℕ) → x < total → Owed net lag (cellAt id) (at due x)
+  pub complete : (j s t : ℕ) → j < net .edges → t < high → (n ≤ j → t < low) → Carry net lag (at along j) s t → Stands due total (dueOf net (cellAt id) (at along j) s t)
+
+pub record FewRows (low rows : ℕ) : Type 0 where
+  pub at-0 : low < 1 → rows ≤ 0
+  pub to-1 : low < 3 → rows ≤ 1024
+  pub to-3 : low < 7 → rows ≤ 2048
+  pub to-7 : low < 15 → rows ≤ 3072
+  pub to-15 : low < 24 → rows ≤ 4096
+  pub to-24 : rows ≤ 5120

@@ -46,7 +46,7 @@ abbrev pub Chooses : Netlist → (ℕ → ℤ) → Bool → ℕ → Type 0
 Chooses net r true c = Best gate (graphOf net) (regsOf net) r c
 Chooses net r false c = NoStart gate (graphOf net) (regsOf net) r
 
-pub record Standing (net : Netlist) (r : ℕ → ℤ) (k cells : ℕ) (kind first operand due begin : List ℕ) : Type 0 where
+pub record Standing (net : Netlist) (r : ℕ → ℤ) (k cells rows : ℕ) (kind first operand due begin : List ℕ) : Type 0 where
   pub right : Program cells k kind first operand
-  pub owes : Owes cells due begin (net .edges)
-  pub holds : (c : ℕ) → Holds k kind first operand due (at begin (net .edges)) c ↔ Carried gate (graphOf net) (regsOf net) r (choiceOf (graphOf net) (regsOf net .count) r c)
+  pub owes : Owes cells due begin rows
+  pub holds : (c : ℕ) → Holds k kind first operand due (at begin rows) c ↔ Carried gate (graphOf net) (regsOf net) r (choiceOf (graphOf net) (regsOf net .count) r c)

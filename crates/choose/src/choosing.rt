@@ -50,7 +50,13 @@ fn wire(
     );
 }
 
-// The program of the moved netlist, over as many bits as `base` ends with, and what is due of its cells. How many cells there are.
+// How many cells a program has, and how many rows its dues.
+struct Compiled {
+    cells: usize,
+    rows: usize,
+}
+
+// The program of the moved netlist, over as many bits as `base` ends with, and what is due of its cells. How many cells there are, and how many rows of dues.
 fn compile(
     net: Netlist,
     lab: &[u32],
@@ -61,10 +67,10 @@ fn compile(
     operand: &mut [u16],
     due: &mut [u16],
     begin: &mut [u16],
-) -> usize
+) -> Compiled
     requires { ⌜ Moving net (now lab) (now counts) (now base) (at (now base) (net .edges)) ⌝ }
-    requires { ⌜ (length (now kind) ≡ 12288) × (length (now first) ≡ 12289) × (length (now operand) ≡ 24576) × (length (now due) ≡ 24576) × (length (now begin) ≡ 1025) ⌝ }
-    ensures { λ r. ⌜ Standing net (lagsOf (now (lab .entry))) (at (now (base .entry)) (net .edges)) r (now (kind .exit)) (now (first .exit)) (now (operand .exit)) (now (due .exit)) (now (begin .exit)) ⌝ }
+    requires { ⌜ (length (now kind) ≡ 12288) × (length (now first) ≡ 12289) × (length (now operand) ≡ 24576) × (length (now due) ≡ 24576) × (length (now begin) ≡ 5121) ⌝ }
+    ensures { λ r. ⌜ Standing net (lagsOf (now (lab .entry))) (at (now (base .entry)) (net .edges)) (r .cells) (r .rows) (now (kind .exit)) (now (first .exit)) (now (operand .exit)) (now (due .exit)) (now (begin .exit)) ⌝ }
 {
     let order = order_of(net, lab, counts);
     let mut id = [0u16; 16384];
@@ -72,8 +78,8 @@ fn compile(
     let cells = number_cells(&order, lab, net.nodes as usize, &mut id, &mut code);
     put_kinds(&net.kind, &code, cells, kind);
     wire(net, counts, base, &id, &code, cells, first, operand);
-    dues_of(net, lab, &order, &id, due, begin);
-    cells
+    let rows = dues_of(net, lab, &order, &id, due, begin);
+    Compiled { cells, rows }
 }
 
 // The smallest choice that carries the start, or that none does.
@@ -92,8 +98,8 @@ pub fn choose(net: Netlist, lab: &[u32], counts: &[u32], base: &[u32], k: u32) -
     let mut first = [0u16; 12289];
     let mut operand = [0u16; 24576];
     let mut due = [0u16; 24576];
-    let mut begin = [0u16; 1025];
-    let cells = compile(
+    let mut begin = [0u16; 5121];
+    let made = compile(
         net,
         lab,
         counts,
@@ -104,6 +110,7 @@ pub fn choose(net: Netlist, lab: &[u32], counts: &[u32], base: &[u32], k: u32) -
         &mut due,
         &mut begin,
     );
-    let edges = net.edges as usize;
-    solve(&kind, &first, &operand, cells, k, &mut due, &begin, edges)
+    let cells = made.cells;
+    let rows = made.rows;
+    solve(&kind, &first, &operand, cells, k, &mut due, &begin, rows)
 }

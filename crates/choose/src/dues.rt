@@ -4,14 +4,14 @@ use graph::sort_by;
 use moves::up_of;
 use netlist::Netlist;
 ghost use mathlib.Core.Path.{_≡_};
-ghost use Prim.Native.Nat.{ℕ, _+_, _*_, _-_, _≤_, _<_};
+ghost use Prim.Native.Nat.{ℕ, _+_, _*_, _-_, _≤_, _<_, min};
 ghost use lib.ListN.{length};
 ghost use Rattle.graph.specs.Columns.{at};
 ghost use Rattle.search.specs.Program.{Owes};
 ghost use Rattle.moves.specs.Labels.{Labelled};
 ghost use Rattle.choose.specs.Numbers.{lagAt, Arranged};
 ghost use Rattle.choose.specs.Sources.{Appended};
-ghost use Rattle.choose.specs.Dues.{cellAt, Whole, Dues, dueAt, Celled};
+ghost use Rattle.choose.specs.Dues.{cellAt, Whole, Dues, dueAt, Celled, DuesTo};
 
 // k - r, and 0 where r is larger.
 fn less(k: u32, r: u32) -> u32
@@ -20,25 +20,35 @@ fn less(k: u32, r: u32) -> u32
     if r < k { k - r } else { 0 }
 }
 
-// What is due of one edge that leaves node v, put from `start` on. The place after it.
+// The smaller of two numbers.
+fn least(a: u32, b: u32) -> u32
+    ensures { λ x. ⌜ x ≡ min a b ⌝ }
+{
+    if a < b { a } else { b }
+}
+
+// What is due of one edge that leaves node v, of the clocks from `low` up to `high`, put from `start` on. The place after it.
 // "for each edge leaving a node v with positive lag and each old value s of that edge with s at least w − r(v), node v … gives that value at clock s − w + r(v)"
 fn append_dues(
     v: usize,
     lag: u32,
     count: u32,
     values: u32,
+    low: u32,
+    high: u32,
     id: &[u16],
     start: usize,
     due: &mut [u16],
 ) -> usize
-    requires { ⌜ (v < 512) × (lag ≤ 24) × (count ≤ 32) × (length (now id) ≡ 16384) × (start + 24 ≤ length (now due)) ⌝ }
+    requires { ⌜ (v < 512) × (lag ≤ 24) × (count ≤ 32) × (low ≤ high) × (high ≤ 24) × (length (now id) ≡ 16384) × (start + high ≤ length (now due) + low) × (length (now due) ≡ 24576) ⌝ }
     requires { ⌜ ((t : ℕ) → t < lag → cellAt (now id) v t < 12288) ⌝ }
-    ensures { λ r. ⌜ r + (count - lag) ≡ start + count ⌝ }
-    ensures { λ r. ⌜ Appended (dueAt (now (id .entry)) v lag count values) (now (due .entry)) (now (due .exit)) (count - lag) count start ⌝ }
+    ensures { λ r. ⌜ r ≡ start + (min count (count + high - lag) - (count + low - lag)) ⌝ }
+    ensures { λ r. ⌜ Appended (dueAt (now (id .entry)) v lag count values) (now (due .entry)) (now (due .exit)) (count + low - lag) (min count (count + high - lag)) start ⌝ }
 {
     let mut n = start;
-    let mut s = less(count, lag);
-    while s < count {
+    let end = least(count, less(count + high, lag));
+    let mut s = less(count + low, lag);
+    while s < end {
         let spot = v * 32 + ((s + lag - count) as usize);
         due[n] = id[spot] * 2 + ((values >> s) % 2) as u16;
         n += 1;
@@ -91,7 +101,67 @@ fn edges_along(from: &[u16], order: &[u16], nodes: usize, edges: usize) -> [u16;
     along
 }
 
-// What is due, edge by edge, in the evaluation order of the nodes that they leave: the search then looks at a value soon after it is evaluated.
+// The largest lag.
+fn top_of(lab: &[u32], nodes: usize) -> u32
+    requires { ⌜ (nodes ≤ 512) × (nodes ≤ length (now lab)) × ((v : ℕ) → v < nodes → lagAt (now lab) v ≤ 24) ⌝ }
+    ensures { λ r. ⌜ (r ≤ 24) × ((v : ℕ) → v < nodes → lagAt (now (lab .entry)) v ≤ r) ⌝ }
+{
+    let mut top = 0;
+    let mut v = 0;
+    while v < nodes {
+        let lag = up_of(lab[v]);
+        if top < lag {
+            top = lag;
+        }
+        v += 1;
+    }
+    top
+}
+
+// One run of clocks, from `low` up to `high`, of every edge: a row for each edge, put from place `start` of the dues and row `first` on. The place after it.
+fn put_run(
+    net: Netlist,
+    lab: &[u32],
+    along: &[u16],
+    id: &[u16],
+    low: u32,
+    high: u32,
+    first: usize,
+    start: usize,
+    due: &mut [u16],
+    begin: &mut [u16],
+) -> usize
+    requires { ⌜ Labelled net (now lab) × Whole (now along) (net .edges) × Celled (lagAt (now lab)) (net .nodes) 12288 (now id) ⌝ }
+    requires { ⌜ (low ≤ high) × (high ≤ 24) × (first ≤ 4096) × (length (now along) ≡ 1024) × (length (now due) ≡ 24576) × (length (now begin) ≡ 5121) ⌝ }
+    requires { ⌜ DuesTo net (lagAt (now lab)) (now id) (now along) low low 0 first (now due) (now begin) start ⌝ }
+    ensures { λ r. ⌜ DuesTo net (lagAt (now (lab .entry))) (now (id .entry)) (now (along .entry)) high high 0 (first + net .edges) (now (due .exit)) (now (begin .exit)) r ⌝ }
+{
+    let edges = net.edges as usize;
+    let mut n = start;
+    let mut p = 0;
+    while p < edges {
+        let e = along[p] as usize;
+        let v = net.from[e] as usize;
+        let lag = up_of(lab[v]);
+        n = append_dues(
+            v,
+            lag,
+            net.count[e] as u32,
+            net.start[e],
+            low,
+            high,
+            id,
+            n,
+            due,
+        );
+        p += 1;
+        begin[first + p] = n as u16;
+    }
+    n
+}
+
+// What is due, in rows: an edge's moved clocks in runs of 1, 2, 4, … clocks, the first runs of all edges first, so that an early clock of one edge does not wait for
+// the late ones of another; edges in the evaluation order of the nodes that they leave: the search then looks at a value soon after it is evaluated. How many rows.
 pub fn dues_of(
     net: Netlist,
     lab: &[u32],
@@ -99,23 +169,25 @@ pub fn dues_of(
     id: &[u16],
     due: &mut [u16],
     begin: &mut [u16],
-)
+) -> usize
     requires { ⌜ Labelled net (now lab) × Arranged (now order) (net .nodes) × Celled (lagAt (now lab)) (net .nodes) 12288 (now id) ⌝ }
-    requires { ⌜ (length (now due) ≡ 24576) × (length (now begin) ≡ 1025) ⌝ }
-    ensures { λ _. ⌜ Owes 12288 (now (due .exit)) (now (begin .exit)) (net .edges) ⌝ }
-    ensures { λ _. ⌜ Dues net (lagAt (now (lab .entry))) (cellAt (now (id .entry))) (now (due .exit)) (at (now (begin .exit)) (net .edges)) ⌝ }
+    requires { ⌜ (length (now due) ≡ 24576) × (length (now begin) ≡ 5121) ⌝ }
+    ensures { λ r. ⌜ Owes 12288 (now (due .exit)) (now (begin .exit)) r ⌝ }
+    ensures { λ r. ⌜ Dues net (lagAt (now (lab .entry))) (cellAt (now (id .entry))) (now (due .exit)) (at (now (begin .exit)) r) ⌝ }
 {
+    let nodes = net.nodes as usize;
     let edges = net.edges as usize;
-    let along = edges_along(&net.from, order, net.nodes as usize, edges);
+    let along = edges_along(&net.from, order, nodes, edges);
+    let top = top_of(lab, nodes);
     begin[0] = 0;
+    let mut rows = 0;
     let mut n = 0;
-    let mut p = 0;
-    while p < edges {
-        let e = along[p] as usize;
-        let v = net.from[e] as usize;
-        let lag = up_of(lab[v]);
-        n = append_dues(v, lag, net.count[e] as u32, net.start[e], id, n, due);
-        p += 1;
-        begin[p] = n as u16;
+    let mut low = 0;
+    while low < top {
+        let high = least(2 * low + 1, 24);
+        n = put_run(net, lab, &along, id, low, high, rows, n, due, begin);
+        rows += edges;
+        low = high;
     }
+    rows
 }

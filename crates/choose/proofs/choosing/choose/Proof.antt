@@ -33,9 +33,6 @@ compile-requires c κs =
     let m = s .pre in
     (subst (Moving (s .args .net) (now (s .args .lab)) (now (s .args .counts)) (now (s .args .base))) (m .chosen) m, (search needs, search needs, search needs, search needs, search needs))
 
-cast-edges : tie.Need-cast-edges
-cast-edges c = search needs
-
 slice-aggregate-solve : tie.Need-slice-aggregate-solve
 slice-aggregate-solve c = search needs
 
@@ -52,11 +49,11 @@ slice-aggregate-solve-5 : tie.Need-slice-aggregate-solve-5
 slice-aggregate-solve-5 c = search needs
 
 solve-requires : tie.Need-solve-requires
-solve-requires c κs = let p = c .before .before .before .before .before .before .before .before .before .before .before in let s = stands (p .before .before .before .before .before .before .before .before .before .before .pre) (p .compile .ensures) in (s .right, (s .owes, search needs))
+solve-requires c κs = let p = c .before .before .before .before .before .before .before .before .before .before in let s = stands (p .before .before .before .before .before .before .before .before .before .before .pre) (p .compile .ensures) in (s .right, (s .owes, search needs))
 
 returns-2 : tie.Need-returns-2
 returns-2 c =
-    let p = c .before .before .before .before .before .before .before .before .before .before .before .before .before in
+    let p = c .before .before .before .before .before .before .before .before .before .before .before .before in
     let m = p .before .before .before .before .before .before .before .before .before .before .pre in
     chooses m (stands m (p .compile .ensures)) (c .before .solve .result .found) (c .before .solve .result .choice) (c .before .solve .ensures)
 
@@ -71,7 +68,6 @@ choose-spec =
     slice-aggregate-compile-4
     slice-aggregate-compile-5
     compile-requires
-    cast-edges
     slice-aggregate-solve
     slice-aggregate-solve-2
     slice-aggregate-solve-3
