@@ -3,7 +3,7 @@
 --   operandsOf          the operands of a cell
 --   valuesTo            the values of the first n cells
 --   Program             the gates keep their rules, and their operands are bits below k and earlier cells
---   Owes                what is due: the number 2 i + x says that cell i must give x; the dues of one edge stand together
+--   Owes                what is due: the number 2 i + x says that cell i must give x; dues stand in rows, each a run of one edge's moved clocks
 --   Holds               every cell gives what is due of it
 --   Solves              the smallest choice that does, or that none does
 --   Levelled            cells stand in rising order of the leading bits that they depend on; those of level m, which see no bit from m on, begin at levels(m)
@@ -48,7 +48,7 @@ pub record Program (cells k : ℕ) (kind first operand : List ℕ) : Type 0 wher
   pub in-rows : (i : ℕ) → i < cells → at first (suc i) ≤ length operand
   pub earlier : (i j : ℕ) → i < cells → at first i ≤ j → j < at first (suc i) → (at operand j < k) ⊎ ((32 ≤ at operand j) × (at operand j < 32 + i))
 
--- What is due of edge e stands from place begin(e) up to begin(e + 1).
+-- Row e stands from place begin(e) up to begin(e + 1).
 pub record Owes (cells : ℕ) (due begin : List ℕ) (edges : ℕ) : Type 0 where
   pub begin-rows : edges < length begin
   pub due-rows : at begin edges ≤ length due

@@ -17,7 +17,7 @@ pub struct Choice {
 }
 
 // The smallest choice of k bits under which every cell gives what is due of it. Cells stand in rising order of the leading bits that they depend on;
-// those of level m, which depend on m of them, from levels[m] on. A due 2 i + x asks x of cell i; those of one edge stand from begin[e] up to
+// those of level m, which depend on m of them, from levels[m] on. A due 2 i + x asks x of cell i; a run of one edge's clocks stands from begin[e] up to
 // begin[e + 1].
 pub fn search<'a>(
     kind: &'a [u8],
