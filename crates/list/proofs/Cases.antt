@@ -15,7 +15,7 @@ use mathlib.Core.List.{List, [], _++_, append-nil}
 use borrow.Author.Tests.{le-leb}
 use lib.IntN.{ℤ, pos}
 use lib.ListN.{length, take, drop, getD, replicate, length-append, length-drop, drop-of-length-le}
-use lib.Seq.{sets, sets-eq, take-all, take-at, drop-append-add, drop-drop, length-sets, length-take-le}
+use lib.Seq.{sets, sets-eq, take-all, take-at, drop-append-add, drop-drop, length-take-le}
 use Rattle.theory.specs.Lag.{up, down}
 use Rattle.frame.specs.Decoded.{placed}
 use Rattle.frame.proofs.Laws.{placed-room}
@@ -36,7 +36,7 @@ use Rattle.netlist.proofs.theorems.One.{one-reading}
 use Rattle.netlist.proofs.theorems.Some.{some-reading}
 use Rattle.simulate.proofs.Answered.{says-refused}
 use Rattle.lags.proofs.Laws.{read-sure}
-use Rattle.retime.specs.Retime.{Moves, wide, many, startless, moved, Room, Retimes, unread, twelve, eight, found}
+use Rattle.retime.specs.Retime.{Moves, wide, many, startless, moved, Retimes, unread, twelve, eight, found}
 use Rattle.retime.proofs.theorems.Moved.{same-length}
 use Rattle.retime.proofs.theorems.Demand.{lags-fit}
 use Rattle.retime.proofs.theorems.Refusals.{nothing-touched}

@@ -2,7 +2,7 @@
 --   some-print, one-print
 --   page?, pages-hold   each card is one test that antt computes, beside its row of retime's table
 -- Assumes nothing.
-use Prim.Native.Nat.{ℕ, _<_}
+use Prim.Native.Nat.{ℕ}
 use Prim.Native.String.{String}
 use native.Mathlib.Omega.{arith}
 use mathlib.Core.Path.{_≡_, refl, sym, ap, _∙_, subst}
@@ -24,7 +24,7 @@ use Rattle.netlist.proofs.theorems.One.{one-reading}
 use Rattle.netlist.proofs.theorems.Some.{some-reading}
 use Rattle.lags.proofs.Laws.{read-sure}
 use Rattle.retime.specs.Retime.{Room}
-use Rattle.retime.specs.Card.{bytes, printed, Result, back, refuses, runs, ClaimOf, Card, Claim, A, cards}
+use Rattle.retime.specs.Card.{bytes, printed, Result, back, refuses, runs, ClaimOf, Claim, A, cards}
 use Rattle.retime.proofs.cards.Claims.{alike, alike-yes}
 use Rattle.retime.proofs.theorems.Cards.{cards-hold}
 use Rattle.retime.proofs.theorems.Outcome.{some-outcome, one-outcome}

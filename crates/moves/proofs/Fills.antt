@@ -1,8 +1,7 @@
 -- A column filled from the front, a row at a time.
 -- Assumes nothing.
-use Prim.Native.Nat.{ℕ, _+_, _≤_, _<_}
+use Prim.Native.Nat.{ℕ, _+_, _<_}
 use native.Mathlib.Omega.{arith}
-use native.Mathlib.Decide.{decLt}
 use mathlib.Core.Path.{_≡_, _∙_}
 use mathlib.Core.List.{List}
 use lib.ListN.{length, set, replicate}
@@ -22,14 +21,6 @@ module _ (f rest : ℕ → ℕ) (xs : List ℕ) where
     rows = fill-more f xs e x h q (w .rows);
     past = λ j l. getD-set-other xs e j x 0 (let z : ¬ (j ≡ e) = λ y. omega arith in z) ∙ w .past j (omega arith);
   }
-
-  -- Over a stretch where f is what is there.
-  pub filled-on : (a b : ℕ) → a ≤ b → ((j : ℕ) → a ≤ j → j < b → rest j ≡ f j) → Filled f rest a xs → Filled f rest b xs
-  filled-on a b h q w = record { rows = λ j l. go j l (decLt j a); past = λ j l. w .past j (omega arith) }
-    where
-      go : (j : ℕ) → j < b → Dec (j < a) → at xs j ≡ f j
-      go j l (yes z) = w .rows j z
-      go j l (no z) = w .past j (omega arith) ∙ q j (omega arith) l
 
 pub filled-zeros : (f : ℕ → ℕ) (n : ℕ) → Filled f none 0 (replicate n 0)
 unfolding zeros

@@ -5,7 +5,6 @@
 --   Rows                rows of lower levels come first, those below level m before rows(m), and every row ends within the dues
 --   Same                what stands at the first places of the row is what is due, and all of it does
 -- Assumes nothing.
-use mathlib.Core.Path.{_≡_}
 use mathlib.Core.Bool.{cond}
 use mathlib.Core.List.{List, [], _∷_}
 use Prim.Native.Nat.{ℕ, suc, _+_, _/_, _<_, _≤_}
