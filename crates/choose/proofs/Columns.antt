@@ -1,7 +1,6 @@
 -- The columns that the functions of `cells` leave are the program of the moved netlist.
 --   celled              the numbered cells, as what is due of them asks for
 --   compiled            specs/Cells' `Compiled`
--- Assumes nothing.
 use Prim.Native.Nat.{ℕ, zero, suc, _+_, _*_, _-_, _/_, _%_, _≤_, _<_}
 use native.Mathlib.Omega.{arith}
 use native.Mathlib.Numerals.{add-one}
@@ -16,22 +15,22 @@ use Rattle.theory.specs.Clock.{gather}
 use Rattle.theory.specs.Move.{sum}
 use Rattle.theory.proofs.clocks.Seen.{gather-same}
 use Rattle.graph.specs.Columns.{at}
-use Rattle.graph.specs.Sort.{group, sorted, Sorts}
+use Rattle.graph.specs.inner.Sort.{group, sorted, Sorts}
 use Rattle.graph.proofs.Sorted.{sorted-part}
 use Rattle.netlist.specs.declared.Netlist.{Netlist}
 use Rattle.netlist.proofs.Run.{fit-wired}
-use Rattle.search.specs.Program.{operandsOf}
-use Rattle.choose.specs.Cells.{source, Compiled}
-use Rattle.moves.specs.Labels.{lagsOf, Labelled, Counts, Bases}
-use Rattle.choose.specs.Numbers.{lagAt, Arranged, Numbered}
-use Rattle.choose.specs.Sources.{sourceAt, widthAt, Operands}
-use Rattle.choose.specs.Dues.{cellAt, Celled, Dues}
+use Rattle.search.specs.inner.Program.{operandsOf}
+use Rattle.choose.specs.inner.Cells.{source, Compiled}
+use Rattle.moves.specs.inner.Labels.{lagsOf, Labelled, Counts, Bases}
+use Rattle.choose.specs.inner.Numbers.{lagAt, Arranged, CellsNumbered}
+use Rattle.choose.specs.inner.Sources.{sourceAt, widthAt, Operands}
+use Rattle.choose.specs.inner.Dues.{cellAt, Celled, Dues}
 use Rattle.moves.proofs.Labels.{sum-more, sum-grows}
 use Rattle.choose.proofs.Compiles.{gather-map}
 use Rattle.choose.proofs.Enters.{all-edges, ins-at, width}
 
 pub celled : (lag : ℕ → ℕ) (order : List ℕ) (nodes cells : ℕ) (id code : List ℕ) → ((v : ℕ) → v < nodes → lag v ≤ 24)
-    → Numbered lag order nodes 24 0 cells id code → Celled lag nodes cells id
+    → CellsNumbered lag order nodes 24 0 cells id code → Celled lag nodes cells id
 celled lag order nodes cells id code low n =
     record { rows = n .id-rows; low = low; inside = λ v t hv ht. n .inside v t hv ht (inl (let z : t < 24 = omega (arith, low v hv) in z)) }
 
@@ -49,7 +48,7 @@ part-map f xs ys (suc n) a b h l w =
 
 module _ (net : Netlist) (lab counts base order id code old ins begin kind first operand due : List ℕ) (cells total : ℕ) (s : Labelled net lab)
     (c : Counts net lab counts) (b : Bases net lab base) (o : Arranged order (net .nodes)) (low : (v : ℕ) → v < net .nodes → lagAt lab v ≤ 24)
-    (n : Numbered (lagAt lab) order (net .nodes) 24 0 cells id code)
+    (n : CellsNumbered (lagAt lab) order (net .nodes) 24 0 cells id code)
     (room : net .edges ≤ length old) (st : Sorts (net .to) (net .edges) (net .nodes) old ins begin)
     (ks : (i : ℕ) → i < cells → at kind i ≡ at (net .kind) (at code i / 32))
     (os : Operands (net .from) ins begin counts base id code cells first operand) (rows : sum (widthAt begin code) cells ≤ length operand)

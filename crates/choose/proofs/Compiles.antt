@@ -7,7 +7,6 @@
 --   cell-value          the cell of node v at clock t has v's value at t in the moved netlist
 --   compiled-holds      the cells give what is due exactly where the choice carries the start
 --   solved              so the program's answer is retiming's
--- Assumes nothing.
 use Prim.Native.Nat.{ℕ, zero, suc, _+_, _^_, _/_, _%_, _<_, _≤_}
 use native.Mathlib.Omega.{arith}
 use native.Mathlib.Decide.{ℕ-discrete}
@@ -33,9 +32,9 @@ use Rattle.theory.proofs.moves.Choose.{choice-number}
 use Rattle.graph.specs.Columns.{at, bit}
 use Rattle.netlist.specs.declared.Netlist.{Netlist}
 use Rattle.netlist.specs.Net.{graphOf, regsOf}
-use Rattle.search.specs.Program.{look, valuesTo, valueAt, Program, Holds, Solves}
-use Rattle.choose.specs.Cells.{source, Compiled}
-use Rattle.choose.specs.Wires.{Chooses, Standing}
+use Rattle.search.specs.inner.Program.{look, valuesTo, valueAt, Program, GivesDues, Solves}
+use Rattle.choose.specs.inner.Cells.{source, Compiled}
+use Rattle.choose.specs.inner.Wires.{Chooses, Standing}
 use Rattle.choose.proofs.Programs.{look-bit, look-cell, values-at, value-gate, operand-at}
 
 -- ── What is gathered ────────────────────────────────────────────────────────────────────────
@@ -184,10 +183,10 @@ module _ (net : Netlist) (ok : Sound gate (graphOf net) (regsOf net)) (r : ℕ �
   -- ── What is due ───────────────────────────────────────────────────────────────────────────
 
   -- The due of an old value asks of its cell what carrying the start asks of its node. Each old value that is to be carried has its due, and each due is one's.
-  pub compiled-holds : (c : ℕ) → Holds k kind first operand due total c ↔ Carried gate (graphOf net) (regsOf net) r (choiceOf (graphOf net) (regsOf net .count) r c)
+  pub compiled-holds : (c : ℕ) → GivesDues k kind first operand due total c ↔ Carried gate (graphOf net) (regsOf net) r (choiceOf (graphOf net) (regsOf net .count) r c)
   compiled-holds c = (forth, back)
     where
-      forth : Holds k kind first operand due total c → Carried gate (graphOf net) (regsOf net) r (choiceOf (graphOf net) (regsOf net .count) r c)
+      forth : GivesDues k kind first operand due total c → Carried gate (graphOf net) (regsOf net) r (choiceOf (graphOf net) (regsOf net .count) r c)
       forth holds e s t he hs p =
           let v = graphOf net .src e in
           let d = made .dues .complete e s t (record { edge = he; old = hs; clock = p }) in
@@ -196,7 +195,7 @@ module _ (net : Netlist) (ok : Sound gate (graphOf net) (regsOf net)) (r : ℕ �
           sym (cell-value c v t (ok .wired .src-in e he) (omega arith))
           ∙ ap (valueAt kind first operand k c) (sym i) ∙ sym (holds (d .place) (d .within)) ∙ x
 
-      back : Carried gate (graphOf net) (regsOf net) r (choiceOf (graphOf net) (regsOf net .count) r c) → Holds k kind first operand due total c
+      back : Carried gate (graphOf net) (regsOf net) r (choiceOf (graphOf net) (regsOf net .count) r c) → GivesDues k kind first operand due total c
       back carried x h =
           let d = made .dues .sound x h in
           let q = d .carry in

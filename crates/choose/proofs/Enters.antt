@@ -2,7 +2,6 @@
 --   all-edges, ins-at   every edge stands in the list
 --   width               the places of node v are as many as the edges that enter it
 --   entered             the edges there enter v
--- Assumes nothing.
 use Prim.Native.Nat.{ℕ, suc, _+_, _-_, _≤_, _<_}
 use native.Mathlib.Omega.{arith}
 use native.Mathlib.Numerals.{add-one}
@@ -10,9 +9,9 @@ use mathlib.Core.Path.{_≡_, sym, subst, ap, ap₂, _∙_}
 use mathlib.Core.List.{List}
 use lib.ListN.{length, take, drop, length-append}
 use Rattle.graph.specs.Columns.{at}
-use Rattle.graph.specs.Sort.{group, sorted, Sorts}
+use Rattle.graph.specs.inner.Sort.{group, sorted, Sorts}
 use Rattle.graph.proofs.Sorted.{group-item, sorted-part, sorted-place, sorted-room, sorted-length, sets-at}
-use Rattle.search.specs.Program.{operandsOf}
+use Rattle.search.specs.inner.Program.{operandsOf}
 use Rattle.choose.proofs.Programs.{operand-at}
 
 module _ (to : List ℕ) (edges nodes : ℕ) (old ins begin : List ℕ) (inside : (e : ℕ) → e < edges → at to e < nodes)

@@ -3,7 +3,6 @@
 --   numbered-none       no cell yet
 --   numbered-miss, numbered-hit    one place further: without a cell, with a cell
 --   numbered-clock      a clock is done
--- Assumes nothing.
 use Prim.Native.Nat.{ℕ, _+_, _*_, _≤_, _<_}
 use native.Mathlib.Omega.{arith}
 use native.Mathlib.Decide.{ℕ-discrete, decLt}
@@ -14,8 +13,8 @@ use lib.ListN.{length, set, length-set}
 use lib.Seq.{getD-set-same, getD-set-other}
 use Rattle.theory.proofs.numbers.Pigeon.{no-injection}
 use Rattle.graph.specs.Columns.{at}
-use Rattle.graph.specs.Sort.{Stands, Ordered}
-use Rattle.choose.specs.Numbers.{Arranged, Before, CellAt, Numbered}
+use Rattle.graph.specs.inner.Sort.{Stands, Ordered}
+use Rattle.choose.specs.inner.Numbers.{Arranged, EarlierCell, CellNumbered, CellsNumbered}
 
 -- ── Each node once ──────────────────────────────────────────────────────────────────────────
 
@@ -93,7 +92,7 @@ ordered-arranged nodes edges from to count order few rows s = record {
 -- ── One cell further ────────────────────────────────────────────────────────────────────────
 
 module _ (lag : ℕ → ℕ) (order : List ℕ) (nodes : ℕ) where
-  pub numbered-none : (id code : List ℕ) → length id ≡ 16384 → length code ≡ 12288 → Numbered lag order nodes 0 0 0 id code
+  pub numbered-none : (id code : List ℕ) → length id ≡ 16384 → length code ≡ 12288 → CellsNumbered lag order nodes 0 0 0 id code
   numbered-none id code a b = record {
     few = omega arith;
     id-rows = a;
@@ -107,15 +106,15 @@ module _ (lag : ℕ → ℕ) (order : List ℕ) (nodes : ℕ) where
   stands-more p q v h s = record { place = s .place; within = omega (arith, s .within); holds = s .holds }
 
   -- One place further: what comes before it came before, or is its node.
-  before-split : (t p v s : ℕ) → Before order t (p + 1) v s → Before order t p v s ⊎ ((s ≡ t) × (at order p ≡ v))
+  before-split : (t p v s : ℕ) → EarlierCell order t (p + 1) v s → EarlierCell order t p v s ⊎ ((s ≡ t) × (at order p ≡ v))
   before-split t p v s = ⊎-elim (λ (k : s < t). inl (inl k)) (λ (k : (s ≡ t) × Stands order (p + 1) v). go k (ℕ-discrete (k .1 .place) p))
     where
-      go : (k : (s ≡ t) × Stands order (p + 1) v) → Dec (k .1 .place ≡ p) → Before order t p v s ⊎ ((s ≡ t) × (at order p ≡ v))
+      go : (k : (s ≡ t) × Stands order (p + 1) v) → Dec (k .1 .place ≡ p) → EarlierCell order t p v s ⊎ ((s ≡ t) × (at order p ≡ v))
       go k (yes z) = inr (k .0, ap (at order) (sym z) ∙ k .1 .holds)
       go k (no z) = inl (inr (k .0, record { place = k .1 .place; within = omega (arith, k .1 .within); holds = k .1 .holds }))
 
   -- What comes before a cell that is done comes before the place that is next.
-  before-done : (t p c q v s : ℕ) → (c < t) ⊎ ((c ≡ t) × (q < p)) → Before order c q v s → Before order t p v s
+  before-done : (t p c q v s : ℕ) → (c < t) ⊎ ((c ≡ t) × (q < p)) → EarlierCell order c q v s → EarlierCell order t p v s
   before-done t p c q v s d =
       ⊎-elim
       (λ (k : s < c). inl (let z : s < t = ⊎-elim (λ (a : c < t). omega arith) (λ (a : (c ≡ t) × (q < p)). omega arith) d in z))
@@ -124,15 +123,15 @@ module _ (lag : ℕ → ℕ) (order : List ℕ) (nodes : ℕ) where
   done-more : (t p c q : ℕ) → (c < t) ⊎ ((c ≡ t) × (q < p)) → (c < t) ⊎ ((c ≡ t) × (q < p + 1))
   done-more t p c q = ⊎-elim (λ (a : c < t). inl a) (λ (a : (c ≡ t) × (q < p)). inr (a .0, (let z : q < p + 1 = omega arith in z)))
 
-  module _ (t p n : ℕ) (id code : List ℕ) (s : Numbered lag order nodes t p n id code) where
-    pub numbered-miss : ¬ (t < lag (at order p)) → Numbered lag order nodes t (p + 1) n id code
+  module _ (t p n : ℕ) (id code : List ℕ) (s : CellsNumbered lag order nodes t p n id code) where
+    pub numbered-miss : ¬ (t < lag (at order p)) → CellsNumbered lag order nodes t (p + 1) n id code
     numbered-miss h = record {
       few = omega (arith, s .few);
       id-rows = s .id-rows;
       code-rows = s .code-rows;
-      inside = λ v k hv hk b. ⊎-elim (λ (a : Before order t p v k). s .inside v k hv hk a)
+      inside = λ v k hv hk b. ⊎-elim (λ (a : EarlierCell order t p v k). s .inside v k hv hk a)
           (λ (a : (k ≡ t) × (at order p ≡ v)). absurd (h (rw (← a .0, a .1) hk))) (before-split t p v k b);
-      back = λ v k hv hk b. ⊎-elim (λ (a : Before order t p v k). s .back v k hv hk a)
+      back = λ v k hv hk b. ⊎-elim (λ (a : EarlierCell order t p v k). s .back v k hv hk a)
           (λ (a : (k ≡ t) × (at order p ≡ v)). absurd (h (rw (← a .0, a .1) hk))) (before-split t p v k b);
       each = λ i l.
           let c = s .each i l in
@@ -148,7 +147,7 @@ module _ (lag : ℕ → ℕ) (order : List ℕ) (nodes : ℕ) where
       spot-low = omega (arith, o .few, o .nodes-only p hp, low (at order p) (o .nodes-only p hp))
 
       -- What came before has another code.
-      fresh : (v k : ℕ) → v < nodes → k < lag v → Before order t p v k → ¬ (v * 32 + k ≡ spot)
+      fresh : (v k : ℕ) → v < nodes → k < lag v → EarlierCell order t p v k → ¬ (v * 32 + k ≡ spot)
       unfolding spot
       fresh v k hv hk b q =
           let a : v ≡ at order p = omega (arith, low v hv, low (at order p) (o .nodes-only p hp)) in
@@ -165,25 +164,25 @@ module _ (lag : ℕ → ℕ) (order : List ℕ) (nodes : ℕ) where
       unfolding id′
       at-spot = getD-set-same id spot n 0 (omega (arith, spot-low, s .id-rows))
 
-      kept : (v k : ℕ) → v < nodes → k < lag v → Before order t p v k → at id′ (v * 32 + k) ≡ at id (v * 32 + k)
+      kept : (v k : ℕ) → v < nodes → k < lag v → EarlierCell order t p v k → at id′ (v * 32 + k) ≡ at id (v * 32 + k)
       unfolding id′
       kept v k hv hk b = getD-set-other id spot (v * 32 + k) n 0 (fresh v k hv hk b)
 
-      in-more : (v k : ℕ) → v < nodes → k < lag v → Before order t p v k → at id′ (v * 32 + k) < n
+      in-more : (v k : ℕ) → v < nodes → k < lag v → EarlierCell order t p v k → at id′ (v * 32 + k) < n
       in-more v k hv hk b = subst (λ x. x < n) (sym (kept v k hv hk b)) (s .inside v k hv hk b)
 
       at-last : at code′ n ≡ spot
       unfolding code′
       at-last = getD-set-same code n spot 0 (omega (arith, s .code-rows))
 
-      back-old : (v k : ℕ) → v < nodes → k < lag v → Before order t p v k → at code′ (at id′ (v * 32 + k)) ≡ v * 32 + k
+      back-old : (v k : ℕ) → v < nodes → k < lag v → EarlierCell order t p v k → at code′ (at id′ (v * 32 + k)) ≡ v * 32 + k
       unfolding code′
       back-old v k hv hk b =
           ap (at code′) (kept v k hv hk b)
           ∙ getD-set-other code n (at id (v * 32 + k)) spot 0 (let z : ¬ (at id (v * 32 + k) ≡ n) = λ e. omega (arith, s .inside v k hv hk b) in z)
           ∙ s .back v k hv hk b
 
-      new : CellAt lag order nodes id′ code′ t (p + 1) n
+      new : CellNumbered lag order nodes id′ code′ t (p + 1) n
       unfolding code′ spot
       new = record {
         clock = t;
@@ -196,11 +195,11 @@ module _ (lag : ℕ → ℕ) (order : List ℕ) (nodes : ℕ) where
         earlier = in-more;
       }
 
-      old : (i : ℕ) → i < n → CellAt lag order nodes id′ code′ t (p + 1) i
+      old : (i : ℕ) → i < n → CellNumbered lag order nodes id′ code′ t (p + 1) i
       unfolding code′
       old i l =
           let c = s .each i l in
-          let mine : Before order t p (at order (c .place)) (c .clock) = before-mine (c .clock) (c .place) (c .done) in
+          let mine : EarlierCell order t p (at order (c .place)) (c .clock) = before-mine (c .clock) (c .place) (c .done) in
           record {
             clock = c .clock;
             place = c .place;
@@ -212,27 +211,27 @@ module _ (lag : ℕ → ℕ) (order : List ℕ) (nodes : ℕ) where
             earlier = λ v k hv hk b. subst (λ x. x < i) (sym (kept v k hv hk (before-done t p (c .clock) (c .place) v k (c .done) b))) (c .earlier v k hv hk b);
           }
         where
-          before-mine : (c q : ℕ) → (c < t) ⊎ ((c ≡ t) × (q < p)) → Before order t p (at order q) c
+          before-mine : (c q : ℕ) → (c < t) ⊎ ((c ≡ t) × (q < p)) → EarlierCell order t p (at order q) c
           before-mine c q = ⊎-elim (λ (a : c < t). inl a) (λ (a : (c ≡ t) × (q < p)). inr (a .0, record { place = q; within = a .1; holds = refl }))
 
-      pub numbered-hit : Numbered lag order nodes t (p + 1) (n + 1) (set id (at order p * 32 + t) n) (set code n (at order p * 32 + t))
+      pub numbered-hit : CellsNumbered lag order nodes t (p + 1) (n + 1) (set id (at order p * 32 + t) n) (set code n (at order p * 32 + t))
       unfolding id′ code′ spot
       numbered-hit = record {
         few = omega (arith, s .few);
         id-rows = length-set id spot n ∙ s .id-rows;
         code-rows = length-set code n spot ∙ s .code-rows;
-        inside = λ v k hv hk b. ⊎-elim (λ (a : Before order t p v k). (let z : at id′ (v * 32 + k) < n + 1 = omega (arith, in-more v k hv hk a) in z))
+        inside = λ v k hv hk b. ⊎-elim (λ (a : EarlierCell order t p v k). (let z : at id′ (v * 32 + k) < n + 1 = omega (arith, in-more v k hv hk a) in z))
             (λ (a : (k ≡ t) × (at order p ≡ v)). subst (λ x. at id′ x < n + 1) (let y : spot ≡ v * 32 + k = omega (arith, a .0, a .1) in y) (let z : at id′ spot < n + 1 = omega (arith, at-spot) in z)) (before-split t p v k b);
-        back = λ v k hv hk b. ⊎-elim (λ (a : Before order t p v k). back-old v k hv hk a)
+        back = λ v k hv hk b. ⊎-elim (λ (a : EarlierCell order t p v k). back-old v k hv hk a)
             (λ (a : (k ≡ t) × (at order p ≡ v)). subst (λ x. at code′ (at id′ x) ≡ x) (let y : spot ≡ v * 32 + k = omega (arith, a .0, a .1) in y) (ap (at code′) at-spot ∙ at-last)) (before-split t p v k b);
         each = λ i l. pick i l (ℕ-discrete i n);
       }
         where
-          pick : (i : ℕ) → i < n + 1 → Dec (i ≡ n) → CellAt lag order nodes id′ code′ t (p + 1) i
-          pick i l (yes e) = subst (CellAt lag order nodes id′ code′ t (p + 1)) (sym e) new
+          pick : (i : ℕ) → i < n + 1 → Dec (i ≡ n) → CellNumbered lag order nodes id′ code′ t (p + 1) i
+          pick i l (yes e) = subst (CellNumbered lag order nodes id′ code′ t (p + 1)) (sym e) new
           pick i l (no e) = old i (omega arith)
 
-  pub numbered-clock : (t n : ℕ) (id code : List ℕ) → Arranged order nodes → Numbered lag order nodes t nodes n id code → Numbered lag order nodes (t + 1) 0 n id code
+  pub numbered-clock : (t n : ℕ) (id code : List ℕ) → Arranged order nodes → CellsNumbered lag order nodes t nodes n id code → CellsNumbered lag order nodes (t + 1) 0 n id code
   numbered-clock t n id code o s = record {
     few = omega (arith, s .few, o .few);
     id-rows = s .id-rows;
@@ -253,6 +252,6 @@ module _ (lag : ℕ → ℕ) (order : List ℕ) (nodes : ℕ) where
         };
   }
     where
-      go : (v k : ℕ) → v < nodes → k < t + 1 → Dec (k ≡ t) → Before order t nodes v k
+      go : (v k : ℕ) → v < nodes → k < t + 1 → Dec (k ≡ t) → EarlierCell order t nodes v k
       go v k hv l (yes e) = inr (e, o .every-node v hv)
       go v k hv l (no e) = inl (let z : k < t = omega arith in z)

@@ -8,7 +8,6 @@
 --   dues-more           one edge further
 --   dues-all, owes-all      all runs are put
 --   owes-cells          what is asked for are cells of the program
--- Assumes nothing.
 use Prim.Native.Nat.{ℕ, suc, _+_, _*_, _-_, _/_, _≤_, _<_, min}
 use native.Mathlib.Omega.{arith}
 use native.Mathlib.Nat.{suc-mul, mul-le-mul-right}
@@ -19,20 +18,20 @@ use mathlib.Core.List.{List}
 use lib.ListN.{length, set}
 use lib.Seq.{getD-set-same, getD-set-other}
 use Rattle.graph.specs.Columns.{at, bit}
-use Rattle.graph.specs.Sort.{sorted, Stands, Sorts}
+use Rattle.graph.specs.inner.Sort.{sorted, Stands, Sorts}
 use Rattle.graph.proofs.Sorted.{sorted-place, sorted-holds}
 use Rattle.netlist.specs.declared.Netlist.{Netlist}
-use Rattle.search.specs.Program.{Owes}
-use Rattle.moves.specs.Labels.{Labelled}
+use Rattle.search.specs.inner.Program.{Owes}
+use Rattle.moves.specs.inner.Labels.{Labelled}
 use Rattle.moves.proofs.Labels.{from-node, low-edge, low-nodes}
-use Rattle.choose.specs.Numbers.{lagAt}
-use Rattle.choose.specs.Sources.{Appended}
-use Rattle.choose.specs.Dues.{cellAt, Carry, dueOf, Owed, Dues, dueAt, Celled, Whole, DuesTo, FewRows}
+use Rattle.choose.specs.inner.Numbers.{lagAt}
+use Rattle.choose.specs.inner.Sources.{Appended}
+use Rattle.choose.specs.inner.Dues.{cellAt, Carry, dueOf, Owed, Dues, dueAt, Celled, EachEdge, DuesTo, FewRows}
 use Rattle.choose.proofs.Rules.{count-low}
 use Rattle.choose.proofs.Enters.{all-edges, ins-at}
 
 pub along-whole : (key along begin old : List ℕ) (edges nodes : ℕ) → ((e : ℕ) → e < edges → at key e < nodes) → edges ≤ length old
-    → Sorts key edges nodes old along begin → Whole along edges
+    → Sorts key edges nodes old along begin → EachEdge along edges
 along-whole key along begin old edges nodes inside room s =
     let all = sorted key edges nodes in
     let long : length all ≡ edges = all-edges key edges nodes old along begin inside room s in
@@ -213,7 +212,7 @@ module _ (net : Netlist) (lag : ℕ → ℕ) (id along : List ℕ) where
 
   -- All runs are put, up to the largest lag.
   module _ (due begin : List ℕ) (low rows total : ℕ) (d : DuesTo net lag id along low low 0 rows due begin total) where
-    pub dues-all : Whole along (net .edges) → ((e : ℕ) → e < net .edges → lag (at (net .from) e) ≤ low) → Dues net lag (cellAt id) due (at begin rows)
+    pub dues-all : EachEdge along (net .edges) → ((e : ℕ) → e < net .edges → lag (at (net .from) e) ≤ low) → Dues net lag (cellAt id) due (at begin rows)
     dues-all whole top =
         rw (d .last) (record {
           sound = d .sound;

@@ -3,7 +3,6 @@
 --   values-length, values-at   the first n values are n, and do not change when more cells follow
 --   value-gate                 a cell's value is its gate's, over what its operands show
 --   operand-at                 an operand stands in its cell's rows
--- Assumes nothing.
 use Prim.Native.Nat.{ℕ, zero, suc, _+_, _-_, _<_, min}
 use native.Mathlib.Omega.{arith}
 use native.Mathlib.Decide.{ℕ-discrete}
@@ -15,7 +14,7 @@ use lib.Seq.{getD-at, getD-take, getD-drop}
 use Rattle.theory.specs.Gate.{gate}
 use Rattle.theory.specs.Move.{digit}
 use Rattle.graph.specs.Columns.{at}
-use Rattle.search.specs.Program.{look, operandsOf, valuesTo, valueAt}
+use Rattle.search.specs.inner.Program.{look, operandsOf, valuesTo, valueAt}
 
 module _ (k c : ℕ) (vals : List ℕ) where
   pub look-bit : (x : ℕ) → x < 32 → look k c vals x ≡ digit k c x

@@ -6,7 +6,6 @@
 --   standing            the columns are a right program, and what is due of it is what has to be carried: what `solve` asks for
 --   stands, chooses     what `compile` leaves, over k bits; what `solve` says of it is retiming's
 --   chosen-none         where nothing is chosen, nothing is to be carried
--- Assumes nothing.
 use Prim.Native.Nat.{ℕ, suc, _+_, _*_, _-_, _/_, _%_, _≤_, _<_}
 use native.Mathlib.Omega.{arith}
 use native.Mathlib.Numerals.{add-one}
@@ -23,19 +22,19 @@ use Rattle.theory.proofs.numbers.Whole.{no-down}
 use Rattle.theory.proofs.numbers.Sums.{sum-within}
 use Rattle.theory.proofs.retimer.Levels.{lag-chosen}
 use Rattle.graph.specs.Columns.{at}
-use Rattle.graph.specs.Sort.{group, Ordered}
+use Rattle.graph.specs.inner.Sort.{group, Ordered}
 use Rattle.graph.proofs.Sorted.{sorted-room}
 use Rattle.netlist.specs.declared.Netlist.{Netlist}
 use Rattle.netlist.specs.Net.{graphOf, regsOf}
 use Rattle.netlist.proofs.Run.{fit-wired}
-use Rattle.search.specs.Program.{Program, Owes, Solves}
-use Rattle.choose.specs.Cells.{Compiled}
-use Rattle.moves.specs.Labels.{lagsOf, chosenAt}
-use Rattle.choose.specs.Numbers.{lagAt, Arranged, Before, Numbered}
-use Rattle.choose.specs.Sources.{sourceAt, Shows, widthAt, Ready, Operands}
-use Rattle.choose.specs.Dues.{cellAt, Celled, Dues}
-use Rattle.moves.specs.Moving.{Moving}
-use Rattle.choose.specs.Wires.{Chooses, Entering, Wirable, Standing}
+use Rattle.search.specs.inner.Program.{Program, Owes, Solves}
+use Rattle.choose.specs.inner.Cells.{Compiled}
+use Rattle.moves.specs.inner.Labels.{lagsOf, chosenAt}
+use Rattle.choose.specs.inner.Numbers.{lagAt, Arranged, EarlierCell, CellsNumbered}
+use Rattle.choose.specs.inner.Sources.{sourceAt, SourceRows, widthAt, OperandRows, Operands}
+use Rattle.choose.specs.inner.Dues.{cellAt, Celled, Dues}
+use Rattle.moves.specs.inner.Moving.{Moving}
+use Rattle.choose.specs.inner.Wires.{Chooses, Entering, Wirable, Standing}
 use Rattle.moves.proofs.Labels.{from-node, low-nodes, low-edges, sum-more, sum-grows}
 use Rattle.choose.proofs.Rules.{kind-low, fan-low}
 use Rattle.choose.proofs.Numbers.{ordered-arranged}
@@ -48,7 +47,7 @@ use Rattle.choose.proofs.Widths.{few-operands}
 pub record Placed (net : Netlist) (lab counts order id code : List ℕ) (cells : ℕ) : Type 0 where
   pub rows : net .nodes ≤ length order
   pub ordered : Ordered (net .nodes) (net .edges) (net .from) (net .to) counts order
-  pub numbered : Numbered (lagAt lab) order (net .nodes) 24 0 cells id code
+  pub numbered : CellsNumbered (lagAt lab) order (net .nodes) 24 0 cells id code
 
 module _ {net : Netlist} {lab counts base : List ℕ} {k : ℕ} (m : Moving net lab counts base k) where
   pub size : k ≡ chosenIn (graphOf net) (regsOf net .count) (lagsOf lab)
@@ -79,7 +78,7 @@ module _ {net : Netlist} {lab counts base : List ℕ} {k : ℕ} (m : Moving net 
     abbrev o : Ordered (net .nodes) (net .edges) (net .from) (net .to) counts order
     o = placed .ordered
 
-    abbrev n : Numbered (lagAt lab) order (net .nodes) 24 0 cells id code
+    abbrev n : CellsNumbered (lagAt lab) order (net .nodes) 24 0 cells id code
     n = placed .numbered
 
     okay : Celled (lagAt lab) (net .nodes) cells id
@@ -111,7 +110,7 @@ module _ {net : Netlist} {lab counts base : List ℕ} {k : ℕ} (m : Moving net 
         n .each i h .earlier (at (net .from) e) (t - at counts e) (from-node net lab (m .labelled) e he)
         (source-lag t e he (subst (λ v. t < lagAt lab v) (sym q) (clock-low i h)) l) (go (ℕ-discrete (at counts e) 0))
       where
-        go : Dec (at counts e ≡ 0) → Before order (n .each i h .clock) (n .each i h .place) (at (net .from) e) (at code i % 32 - at counts e)
+        go : Dec (at counts e ≡ 0) → EarlierCell order (n .each i h .clock) (n .each i h .place) (at (net .from) e) (at code i % 32 - at counts e)
         go (yes z) =
             inr ((let y : at code i % 32 - at counts e ≡ n .each i h .clock = omega (arith, clock-of i h) in y), o .sources-first (n .each i h .place) e (n .each i h .within) he (q ∙ node-of i h) z)
         go (no z) = inl (let y : at code i % 32 - at counts e < n .each i h .clock = omega (arith, clock-of i h) in y)
@@ -123,7 +122,7 @@ module _ {net : Netlist} {lab counts base : List ℕ} {k : ℕ} (m : Moving net 
       place-edge : (i j : ℕ) → i < cells → at begin (at code i / 32) ≤ j → j < at begin (at code i / 32 + 1) → (at ins j < net .edges) × (at (net .to) (at ins j) ≡ at code i / 32)
       place-edge i j h = entered (net .to) (net .edges) (net .nodes) (g .old) ins begin (fit-wired net (m .labelled .fit) .dst-in) (g .room) (g .sorts) (at code i / 32) j (node-low i h)
 
-      pub ready : (i : ℕ) → i < cells → Ready (net .from) ins begin counts base id code i
+      pub ready : (i : ℕ) → i < cells → OperandRows (net .from) ins begin counts base id code i
       ready i h = record {
         row = omega (arith, node-low i h, low-nodes net lab (m .labelled), g .begin-rows);
         rises = places (at code i / 32) (node-low i h) .0;
@@ -131,7 +130,7 @@ module _ {net : Netlist} {lab counts base : List ℕ} {k : ℕ} (m : Moving net 
         shows = λ j u l. let p = place-edge i j h l u in shown (at ins j) (p .0) (p .1);
       }
         where
-          shown : (e : ℕ) → e < net .edges → at (net .to) e ≡ at code i / 32 → Shows (net .from) counts base id (at code i % 32) e
+          shown : (e : ℕ) → e < net .edges → at (net .to) e ≡ at code i / 32 → SourceRows (net .from) counts base id (at code i % 32) e
           shown e he q = record {
             from-row = omega arith;
             count-row = omega (arith, m .count-rows);

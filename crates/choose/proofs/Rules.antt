@@ -2,7 +2,6 @@
 --   kind-low            a gate kind is at most 9
 --   count-low           no edge has more than 32 registers
 --   fan-low             no node is entered by more than 8 edges
--- Assumes nothing.
 use Prim.Native.Nat.{ℕ, _≤_, _<_}
 use native.Mathlib.Omega.{arith}
 use mathlib.Core.Bool.{Bool, true, false, cond}
@@ -11,7 +10,7 @@ use Rattle.rules.specs.Rules.{ruleOf}
 use Rattle.graph.specs.Columns.{at, fan-in}
 use Rattle.netlist.specs.declared.Netlist.{Netlist}
 use Rattle.netlist.specs.Net.{graphOf}
-use Rattle.netlist.specs.Read.{All, FanIn}
+use Rattle.netlist.specs.Read.{All, FanInFits}
 use Rattle.netlist.specs.Theorems.{Fit}
 use Rattle.netlist.proofs.Fits.{node-fits, edge-fits}
 
@@ -21,7 +20,7 @@ kind-low net f v h = omega (arith, node-fits (at (net .kind) v) (at (net .delay)
 pub count-low : (net : Netlist) → Fit net → (e : ℕ) → e < net .edges → at (net .count) e ≤ 32
 count-low net f e h = edge-fits (net .nodes) (graphOf net .kind) (at (net .from) e) (at (net .to) e) (at (net .count) e) (at (net .start) e) (f .edge e h) .2
 
-pub fan-low : (net : Netlist) → All (FanIn (graphOf net)) (net .nodes) → (v : ℕ) → v < net .nodes → fan-in (graphOf net) v ≤ 8
+pub fan-low : (net : Netlist) → All (FanInFits (graphOf net)) (net .nodes) → (v : ℕ) → v < net .nodes → fan-in (graphOf net) v ≤ 8
 unfolding ruleOf
 fan-low net fan v h = go (ltb (at (net .kind) v) 1) (ltb (at (net .kind) v) 4) (fan v h .1)
   where

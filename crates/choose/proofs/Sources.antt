@@ -3,7 +3,6 @@
 --   appended-none, appended-more    one place further
 --   appended-cut        all places are put
 --   operands-none, operands-more    one cell further
--- Assumes nothing.
 use Prim.Native.Nat.{ℕ, _+_, _-_, _/_, _%_, _≤_, _<_}
 use native.Mathlib.Omega.{arith}
 use native.Mathlib.Decide.{ℕ-discrete}
@@ -16,7 +15,7 @@ use lib.Seq.{getD-set-same, getD-set-other}
 use borrow.Author.Tests.{lt-ltb, le-ltb}
 use Rattle.theory.specs.Move.{sum}
 use Rattle.graph.specs.Columns.{at}
-use Rattle.choose.specs.Sources.{sourceAt, Appended, widthAt, Operands}
+use Rattle.choose.specs.inner.Sources.{sourceAt, Appended, widthAt, Operands}
 use Rattle.moves.proofs.Labels.{sum-more, base-none, sum-grows}
 use Rattle.graph.proofs.Fills.{fill-more}
 

@@ -1,7 +1,6 @@
 -- There are at most 24,576 operands: at each clock a node has one cell, so an edge has one operand at each of 24 clocks.
 --   sum-once            a sum over nodes that each stand once is at most the sum over all
 --   few-operands        so the cells' widths add up to 24,576 at most
--- Assumes nothing.
 use Prim.Native.Nat.{ℕ, zero, suc, _+_, _*_, _-_, _/_, _≤_, _<_}
 use native.Mathlib.Omega.{arith}
 use native.Mathlib.Numerals.{add-one}
@@ -14,8 +13,8 @@ use borrow.Author.Tests.{eq-eqb, ne-eqb}
 use lib.Dec.{eqb}
 use Rattle.theory.specs.Move.{sum}
 use Rattle.graph.specs.Columns.{at}
-use Rattle.choose.specs.Numbers.{Arranged, CellAt, Numbered}
-use Rattle.choose.specs.Sources.{widthAt}
+use Rattle.choose.specs.inner.Numbers.{Arranged, CellNumbered, CellsNumbered}
+use Rattle.choose.specs.inner.Sources.{widthAt}
 use Rattle.moves.proofs.Words.{sum-same}
 use Rattle.moves.proofs.Labels.{sum-more, sum-none, sum-grows}
 
@@ -55,7 +54,7 @@ sum-once order nodes (suc p) inn one g =
     omega (arith, w, e, sum-suc (λ q. g (at order q)) p, sum-drop g a nodes (inn p (omega arith)))
 
 module _ (lag : ℕ → ℕ) (order begin id code : List ℕ) (nodes edges cells : ℕ) (o : Arranged order nodes) (low : (v : ℕ) → v < nodes → lag v ≤ 24) (few : edges ≤ 1024)
-    (n : Numbered lag order nodes 24 0 cells id code) (rises : (v : ℕ) → v < nodes → at begin v ≤ at begin (v + 1)) (room : at begin nodes ≤ edges) where
+    (n : CellsNumbered lag order nodes 24 0 cells id code) (rises : (v : ℕ) → v < nodes → at begin v ≤ at begin (v + 1)) (room : at begin nodes ≤ edges) where
   wide : ℕ → ℕ
   wide v = at begin (v + 1) - at begin v
 
@@ -90,10 +89,10 @@ module _ (lag : ℕ → ℕ) (order begin id code : List ℕ) (nodes edges cells
       → (n .each i h .clock < n .each (suc i) l .clock) ⊎ ((n .each i h .clock ≡ n .each (suc i) l .clock) × (n .each i h .place < n .each (suc i) l .place))
   later i h l = go (decLt (n .each i h .clock) (n .each (suc i) l .clock)) (ℕ-discrete (n .each i h .clock) (n .each (suc i) l .clock)) (decLt (n .each i h .place) (n .each (suc i) l .place)) (ℕ-discrete (n .each i h .place) (n .each (suc i) l .place))
     where
-      a : CellAt lag order nodes id code 24 0 i
+      a : CellNumbered lag order nodes id code 24 0 i
       a = n .each i h
 
-      b : CellAt lag order nodes id code 24 0 (suc i)
+      b : CellNumbered lag order nodes id code 24 0 (suc i)
       b = n .each (suc i) l
 
       no-back : (b .clock < a .clock) ⊎ ((b .clock ≡ a .clock) × (b .place < a .place)) → ⊥

@@ -1,6 +1,2 @@
--- The start values to be found, as a program for the search: cells, their numbers, operands, what is due of them; put together.
-pub mod Dues
-pub mod Cells
-pub mod Numbers
-pub mod Sources
-pub mod Wires
+-- Nobody outside has to believe anything of this crate: all is what functions promise each other.
+pub mod inner

@@ -11,11 +11,11 @@ ghost use lib.Dec.{ltb};
 ghost use lib.ListN.{length};
 ghost use Rattle.theory.specs.Move.{sum};
 ghost use Rattle.graph.specs.Columns.{at};
-ghost use Rattle.choose.specs.Numbers.{lagAt, Arranged, Numbered};
-ghost use Rattle.choose.specs.Sources.{sourceAt, Shows, Appended, widthAt, Ready, Operands};
-ghost use Rattle.moves.specs.Labels.{Labelled, Counts};
+ghost use Rattle.choose.specs.inner.Numbers.{lagAt, Arranged, CellsNumbered};
+ghost use Rattle.choose.specs.inner.Sources.{sourceAt, SourceRows, Appended, widthAt, OperandRows, Operands};
+ghost use Rattle.moves.specs.inner.Labels.{Labelled, Counts};
 ghost use Rattle.theory.specs.Walk.{Loop};
-ghost use Rattle.graph.specs.Sort.{Ordered};
+ghost use Rattle.graph.specs.inner.Sort.{Ordered};
 ghost use Rattle.netlist.specs.Net.{graphOf, regsOf};
 
 // The cells of clock t are numbered from `start` on, in the order of the nodes. The number after them.
@@ -30,8 +30,8 @@ fn number_clock(
 ) -> usize
     requires { ⌜ Arranged (now order) nodes × (nodes ≤ length (now lab)) × (t < 24) ⌝ }
     requires { ⌜ ((v : ℕ) → v < nodes → lagAt (now lab) v ≤ 24) ⌝ }
-    requires { ⌜ Numbered (lagAt (now lab)) (now order) nodes t 0 start (now id) (now code) ⌝ }
-    ensures { λ r. ⌜ Numbered (lagAt (now (lab .entry))) (now (order .entry)) nodes t nodes r (now (id .exit)) (now (code .exit)) ⌝ }
+    requires { ⌜ CellsNumbered (lagAt (now lab)) (now order) nodes t 0 start (now id) (now code) ⌝ }
+    ensures { λ r. ⌜ CellsNumbered (lagAt (now (lab .entry))) (now (order .entry)) nodes t nodes r (now (id .exit)) (now (code .exit)) ⌝ }
 {
     let clock = t as u32;
     let mut n = start;
@@ -60,7 +60,7 @@ pub fn number_cells(
     requires { ⌜ Arranged (now order) nodes × (nodes ≤ length (now lab)) ⌝ }
     requires { ⌜ ((v : ℕ) → v < nodes → lagAt (now lab) v ≤ 24) ⌝ }
     requires { ⌜ (length (now id) ≡ 16384) × (length (now code) ≡ 12288) ⌝ }
-    ensures { λ r. ⌜ Numbered (lagAt (now (lab .entry))) (now (order .entry)) nodes 24 0 r (now (id .exit)) (now (code .exit)) ⌝ }
+    ensures { λ r. ⌜ CellsNumbered (lagAt (now (lab .entry))) (now (order .entry)) nodes 24 0 r (now (id .exit)) (now (code .exit)) ⌝ }
 {
     let mut n = 0;
     let mut t = 0;
@@ -113,7 +113,7 @@ fn append_sources(
     operand: &mut [u16],
 ) -> usize
     requires { ⌜ (lo ≤ hi) × (hi ≤ length (now ins)) × (start + hi ≤ lo + length (now operand)) × (t < 32) × (length (now id) ≡ 16384) ⌝ }
-    requires { ⌜ ((k : ℕ) → k < hi → lo ≤ k → Shows (now from) (now counts) (now base) (now id) t (at (now ins) k)) ⌝ }
+    requires { ⌜ ((k : ℕ) → k < hi → lo ≤ k → SourceRows (now from) (now counts) (now base) (now id) t (at (now ins) k)) ⌝ }
     ensures { λ r. ⌜ r + lo ≡ start + hi ⌝ }
     ensures { λ r. ⌜ Appended (λ k. sourceAt (now (from .entry)) (now (counts .entry)) (now (base .entry)) (now (id .entry)) t (at (now (ins .entry)) k)) (now (operand .entry)) (now (operand .exit)) lo hi start ⌝ }
 {
@@ -143,7 +143,7 @@ pub fn operands_of(
 )
     requires { ⌜ (cells < length (now first)) × (cells ≤ length (now code)) × (length (now id) ≡ 16384) ⌝ }
     requires { ⌜ (sum (widthAt (now begin) (now code)) cells ≤ length (now operand)) × (sum (widthAt (now begin) (now code)) cells < 65536) ⌝ }
-    requires { ⌜ ((i : ℕ) → i < cells → Ready (now from) (now ins) (now begin) (now counts) (now base) (now id) (now code) i) ⌝ }
+    requires { ⌜ ((i : ℕ) → i < cells → OperandRows (now from) (now ins) (now begin) (now counts) (now base) (now id) (now code) i) ⌝ }
     ensures { λ _. ⌜ Operands (now (from .entry)) (now (ins .entry)) (now (begin .entry)) (now (counts .entry)) (now (base .entry)) (now (id .entry)) (now (code .entry)) cells (now (first .exit)) (now (operand .exit)) ⌝ }
 {
     first[0] = 0;

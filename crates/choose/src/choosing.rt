@@ -12,9 +12,9 @@ use solve::solve;
 ghost use mathlib.Core.Path.{_≡_};
 ghost use lib.ListN.{length};
 ghost use Rattle.graph.specs.Columns.{at};
-ghost use Rattle.moves.specs.Labels.{lagsOf};
-ghost use Rattle.moves.specs.Moving.{Moving};
-ghost use Rattle.choose.specs.Wires.{Chooses, Wirable, Wires, Standing};
+ghost use Rattle.moves.specs.inner.Labels.{lagsOf};
+ghost use Rattle.moves.specs.inner.Moving.{Moving};
+ghost use Rattle.choose.specs.inner.Wires.{Chooses, Wirable, Wires, Standing};
 
 // The operands of the cells: those of a cell are the edges that enter its node, in the order of the edges.
 fn wire(

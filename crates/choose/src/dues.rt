@@ -7,11 +7,11 @@ ghost use mathlib.Core.Path.{_≡_};
 ghost use Prim.Native.Nat.{ℕ, _+_, _*_, _-_, _≤_, _<_, min};
 ghost use lib.ListN.{length};
 ghost use Rattle.graph.specs.Columns.{at};
-ghost use Rattle.search.specs.Program.{Owes};
-ghost use Rattle.moves.specs.Labels.{Labelled};
-ghost use Rattle.choose.specs.Numbers.{lagAt, Arranged};
-ghost use Rattle.choose.specs.Sources.{Appended};
-ghost use Rattle.choose.specs.Dues.{cellAt, Whole, Dues, dueAt, Celled, DuesTo};
+ghost use Rattle.search.specs.inner.Program.{Owes};
+ghost use Rattle.moves.specs.inner.Labels.{Labelled};
+ghost use Rattle.choose.specs.inner.Numbers.{lagAt, Arranged};
+ghost use Rattle.choose.specs.inner.Sources.{Appended};
+ghost use Rattle.choose.specs.inner.Dues.{cellAt, EachEdge, Dues, dueAt, Celled, DuesTo};
 
 // k - r, and 0 where r is larger.
 fn less(k: u32, r: u32) -> u32
@@ -91,7 +91,7 @@ fn keys_of(from: &[u16], edges: usize, place: &[u16]) -> [u16; 1024]
 fn edges_along(from: &[u16], order: &[u16], nodes: usize, edges: usize) -> [u16; 1024]
     requires { ⌜ Arranged (now order) nodes × (edges ≤ 1024) × (edges ≤ length (now from)) ⌝ }
     requires { ⌜ ((e : ℕ) → e < edges → at (now from) e < nodes) ⌝ }
-    ensures { λ r. ⌜ Whole r edges ⌝ }
+    ensures { λ r. ⌜ EachEdge r edges ⌝ }
 {
     let place = places_of(order, nodes);
     let key = keys_of(from, edges, &place);
@@ -131,7 +131,7 @@ fn put_run(
     due: &mut [u16],
     begin: &mut [u16],
 ) -> usize
-    requires { ⌜ Labelled net (now lab) × Whole (now along) (net .edges) × Celled (lagAt (now lab)) (net .nodes) 12288 (now id) ⌝ }
+    requires { ⌜ Labelled net (now lab) × EachEdge (now along) (net .edges) × Celled (lagAt (now lab)) (net .nodes) 12288 (now id) ⌝ }
     requires { ⌜ (low ≤ high) × (high ≤ 24) × (first ≤ 4096) × (length (now along) ≡ 1024) × (length (now due) ≡ 24576) × (length (now begin) ≡ 5121) ⌝ }
     requires { ⌜ DuesTo net (lagAt (now lab)) (now id) (now along) low low 0 first (now due) (now begin) start ⌝ }
     ensures { λ r. ⌜ DuesTo net (lagAt (now (lab .entry))) (now (id .entry)) (now (along .entry)) high high 0 (first + net .edges) (now (due .exit)) (now (begin .exit)) r ⌝ }

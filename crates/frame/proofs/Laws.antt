@@ -14,7 +14,6 @@
 --   placed-room, placed-full     a line written where there is room, and where there is none
 --   sets-sets                    two writes in a row
 --   length-...                   lengths of digits, lines, bytes of a number, buffers
--- Assumes nothing.
 use mathlib.Core.Path.{_≡_, refl, sym, _∙_, ap}
 use mathlib.Core.Bool.{Bool, true, false, cond}
 use mathlib.Core.List.{List, [], _∷_, _++_}
@@ -27,8 +26,8 @@ use lib.Dec.{eqb, ltb, leb}
 use lib.ListN.{length, take, drop, set, replicate, length-append, length-drop}
 use lib.Seq.{sets, length-sets, drop-at, drop-drop}
 use borrow.Author.Tests.{ltb-true, leb-true, eqb-true, lt-ltb, le-ltb, le-leb, lt-leb, eq-eqb}
-use Rattle.frame.specs.Frame.{within, digitOf, Line, bad, line, with-byte, lineAt, of-kind, frameAt, number, charOf, hexOf, lineOf, bytesOf}
-use Rattle.frame.specs.Decoded.{byteOf, decoded, framed, placed}
+use Rattle.frame.specs.Frame.{within, digitOf, Line, bad, line, with-byte, lineAt, of-kind, frameAt, number, charOf, hexOf, lineOf, bytesOf, placed}
+use Rattle.frame.specs.inner.Decoded.{pairOf, decoded, framed}
 
 clash : {A : Type 0} → _≡_ {A = ℕ} 0 1 → A
 clash e = absurd (omega arith)
@@ -95,13 +94,13 @@ digits-true x y e = go (ltb x 16) refl e
     go false p q = clash (cc)
 
 module _ (a b : ℕ) where
-  pub byte-good : digitOf a < 16 → digitOf b < 16 → byteOf a b ≡ digitOf a * 16 + digitOf b
-  unfolding byteOf
+  pub byte-good : digitOf a < 16 → digitOf b < 16 → pairOf a b ≡ digitOf a * 16 + digitOf b
+  unfolding pairOf
   byte-good h k = rw (lt-ltb (digitOf a) 16 h, lt-ltb (digitOf b) 16 k)
 
   -- Below 256 only where both are digits.
-  byte-digits : byteOf a b < 256 → digits a b ≡ true
-  unfolding byteOf
+  byte-digits : pairOf a b < 256 → digits a b ≡ true
+  unfolding pairOf
   byte-digits h = go (digits a b) refl h
     where
       go : (t : Bool) → digits a b ≡ t → cond t (digitOf a * 16 + digitOf b) 256 < 256 → digits a b ≡ true
@@ -109,24 +108,24 @@ module _ (a b : ℕ) where
       go false e h = absurd (omega arith)
 
   -- A byte that is read is written with the same digits.
-  pub byte-hex : byteOf a b < 256 → hexOf (byteOf a b ∷ []) ≡ a ∷ b ∷ []
+  pub byte-hex : pairOf a b < 256 → hexOf (pairOf a b ∷ []) ≡ a ∷ b ∷ []
   unfolding hexOf
   byte-hex h =
       let d = digits-true (digitOf a) (digitOf b) (byte-digits h) in
       let v = byte-good (d .0) (d .1) in
-      let e : byteOf a b / 16 ≡ digitOf a = omega (arith, d) in
-      let f : byteOf a b % 16 ≡ digitOf b = omega (arith, d) in
+      let e : pairOf a b / 16 ≡ digitOf a = omega (arith, d) in
+      let f : pairOf a b % 16 ≡ digitOf b = omega (arith, d) in
       rw (e, f, char-digit a (d .0), char-digit b (d .1))
 
   -- A line that starts with two digits.
-  pub line-more : (n : ℕ) (l : List ℕ) → byteOf a b < 256 → lineAt (suc n) (a ∷ b ∷ l) ≡ with-byte (byteOf a b) (lineAt n l)
+  pub line-more : (n : ℕ) (l : List ℕ) → pairOf a b < 256 → lineAt (suc n) (a ∷ b ∷ l) ≡ with-byte (pairOf a b) (lineAt n l)
   unfolding lineAt
   line-more n l h =
       let d = digits-true (digitOf a) (digitOf b) (byte-digits h) in
       rw (byte-digits h, byte-good (d .0) (d .1))
 
-  pub line-none : (n : ℕ) (l : List ℕ) → 256 ≤ byteOf a b → lineAt (suc n) (a ∷ b ∷ l) ≡ bad
-  unfolding lineAt byteOf
+  pub line-none : (n : ℕ) (l : List ℕ) → 256 ≤ pairOf a b → lineAt (suc n) (a ∷ b ∷ l) ≡ bad
+  unfolding lineAt pairOf
   line-none n l h = go (digits a b) refl h
     where
       go : (t : Bool) → digits a b ≡ t → 256 ≤ cond t (digitOf a * 16 + digitOf b) 256
@@ -134,8 +133,8 @@ module _ (a b : ℕ) where
       go true e h = absurd (omega (arith, digits-true (digitOf a) (digitOf b) e))
       go false e h = refl
 
-pub byte-written : (b : ℕ) → b < 256 → byteOf (charOf (b / 16)) (charOf (b % 16)) ≡ b
-unfolding byteOf
+pub byte-written : (b : ℕ) → b < 256 → pairOf (charOf (b / 16)) (charOf (b % 16)) ≡ b
+unfolding pairOf
 byte-written b h =
     let hi = digit-char (b / 16) (omega arith) in
     let lo = digit-char (b % 16) (omega arith) in
@@ -175,17 +174,17 @@ line-end c l bs rest e = go (eqb c 10) refl e
 line-step : (a b n : ℕ) (l bs rest : List ℕ) → ((cs r : List ℕ) → lineAt n l ≡ line cs r → Front n l cs r)
     → lineAt (suc n) (a ∷ b ∷ l) ≡ line bs rest → Front (suc n) (a ∷ b ∷ l) bs rest
 unfolding Bytes
-line-step a b n l bs rest next e = go (decLt (byteOf a b) 256)
+line-step a b n l bs rest next e = go (decLt (pairOf a b) 256)
   where
-    more : (m : Line) → lineAt n l ≡ m → with-byte (byteOf a b) m ≡ line bs rest → byteOf a b < 256 → Front (suc n) (a ∷ b ∷ l) bs rest
+    more : (m : Line) → lineAt n l ≡ m → with-byte (pairOf a b) m ≡ line bs rest → pairOf a b < 256 → Front (suc n) (a ∷ b ∷ l) bs rest
     more bad p q h = clash (cc)
     more (line cs r) p q h =
-        let u : byteOf a b ∷ cs ≡ bs = cc in
+        let u : pairOf a b ∷ cs ≡ bs = cc in
         let v : r ≡ rest = cc in
         let w = next cs r p in
         rw (← u, ← v) (ap suc (w .0), ((h, w .1 .0), rw (line-cons, byte-hex a b h, ← w .1 .1)))
 
-    go : Dec (byteOf a b < 256) → Front (suc n) (a ∷ b ∷ l) bs rest
+    go : Dec (pairOf a b < 256) → Front (suc n) (a ∷ b ∷ l) bs rest
     go (yes h) = more (lineAt n l) refl (sym (line-more a b n l h) ∙ e) h
     go (no h) = let w = line-none a b n l (omega arith) in clash (cc)
 

@@ -1,6 +1,5 @@
 -- What a turn of each loop, and each test before it, shows.
 --   fill bytes i l      the record of a line of which the bytes before the i-th stand in `bytes`, and the others are those of l
--- Assumes nothing.
 use mathlib.Core.Path.{_≡_, refl, sym, _∙_, ap}
 use mathlib.Core.Bool.{true}
 use mathlib.Core.List.{List, [], _∷_, _++_}
@@ -12,8 +11,8 @@ use lib.ListN.{length, getD, take, drop, set, replicate, length-replicate}
 use lib.Seq.{sets, sets-eq, drop-cons, take-suc, length-take-le, take-all}
 use borrow.Author.Tests.{eq-eqb, ne-eqb}
 use Rattle.frame.specs.declared.Frame.{Frame}
-use Rattle.frame.specs.Frame.{Line, bad, line, with-byte, lineAt, of-kind, frameAt, hexOf, lineOf}
-use Rattle.frame.specs.Decoded.{byteOf, decoded, framed, placed}
+use Rattle.frame.specs.Frame.{Line, bad, line, with-byte, lineAt, of-kind, frameAt, hexOf, lineOf, placed}
+use Rattle.frame.specs.inner.Decoded.{pairOf, decoded, framed}
 use Rattle.frame.proofs.Laws.{line-more, line-none, line-rest, length-hex, length-line, framed-decoded, placed-room, placed-full, sets-sets}
 
 -- ── Read ────────────────────────────────────────────────────────────────────────────────────
@@ -56,11 +55,11 @@ module _ (s : List ℕ) (j n i : ℕ) (h : j + 1 < length s) (m : i < n) where
   shorter : n - i ≡ suc (n - (i + 1))
   shorter = omega arith
 
-  pub turn : (bytes : List ℕ) → byteOf (getD s j 0) (getD s (j + 1) 0) < 256
-      → fill bytes i (lineAt (n - i) (drop j s)) ≡ fill (set bytes i (byteOf (getD s j 0) (getD s (j + 1) 0))) (i + 1) (lineAt (n - (i + 1)) (drop (j + 2) s))
+  pub turn : (bytes : List ℕ) → pairOf (getD s j 0) (getD s (j + 1) 0) < 256
+      → fill bytes i (lineAt (n - i) (drop j s)) ≡ fill (set bytes i (pairOf (getD s j 0) (getD s (j + 1) 0))) (i + 1) (lineAt (n - (i + 1)) (drop (j + 2) s))
   turn bytes k = rw (shorter, two s j h, line-more _ _ (n - (i + 1)) (drop (j + 2) s) k, fill-byte, add-one i)
 
-  pub turn-none : 256 ≤ byteOf (getD s j 0) (getD s (j + 1) 0) → lineAt (n - i) (drop j s) ≡ bad
+  pub turn-none : 256 ≤ pairOf (getD s j 0) (getD s (j + 1) 0) → lineAt (n - i) (drop j s) ≡ bad
   turn-none k = rw (shorter, two s j h) (line-none _ _ (n - (i + 1)) (drop (j + 2) s) k)
 
 -- After the last turn.
@@ -80,10 +79,10 @@ line-short zero [] h = refl
 line-short zero (c ∷ l) h = absurd (omega arith)
 line-short (suc n) [] h = refl
 line-short (suc n) (a ∷ []) h = refl
-line-short (suc n) (a ∷ b ∷ l) h = go (decLt (byteOf a b) 256) (line-short n l (omega arith))
+line-short (suc n) (a ∷ b ∷ l) h = go (decLt (pairOf a b) 256) (line-short n l (omega arith))
   where
-    go : Dec (byteOf a b < 256) → lineAt n l ≡ bad → lineAt (suc n) (a ∷ b ∷ l) ≡ bad
-    go (yes k) e = line-more a b n l k ∙ ap (with-byte (byteOf a b)) e
+    go : Dec (pairOf a b < 256) → lineAt n l ≡ bad → lineAt (suc n) (a ∷ b ∷ l) ≡ bad
+    go (yes k) e = line-more a b n l k ∙ ap (with-byte (pairOf a b)) e
     go (no k) e = line-none a b n l (omega arith)
 
 pub frame-short : (k n : ℕ) (l : List ℕ) → length l < 2 * n + 3 → frameAt k n l ≡ bad
@@ -96,7 +95,7 @@ framed-as k n l h e = sym (framed-decoded k n l h ∙ ap decoded e)
 
 -- The kind, at place j.
 module _ (k n j : ℕ) (s : List ℕ) (h : j + 1 < length s) where
-  pub kind-same : k < 256 → byteOf (getD s j 0) (getD s (j + 1) 0) ≡ k → frameAt k n (drop j s) ≡ lineAt n (drop (j + 2) s)
+  pub kind-same : k < 256 → pairOf (getD s j 0) (getD s (j + 1) 0) ≡ k → frameAt k n (drop j s) ≡ lineAt n (drop (j + 2) s)
   unfolding frameAt
   kind-same m e = rw (two s j h, line-more (getD s j 0) (getD s (j + 1) 0) n (drop (j + 2) s) (rw e m), e) (go (lineAt n (drop (j + 2) s)))
     where
@@ -104,12 +103,12 @@ module _ (k n j : ℕ) (s : List ℕ) (h : j + 1 < length s) where
       go bad = refl
       go (line bs rest) = rw (eq-eqb k k refl)
 
-  pub kind-other : (byteOf (getD s j 0) (getD s (j + 1) 0) ≡ k → ⊥) → frameAt k n (drop j s) ≡ bad
+  pub kind-other : (pairOf (getD s j 0) (getD s (j + 1) 0) ≡ k → ⊥) → frameAt k n (drop j s) ≡ bad
   unfolding frameAt
   kind-other e = rw (two s j h) (go (decLt b 256))
     where
       b : ℕ
-      b = byteOf (getD s j 0) (getD s (j + 1) 0)
+      b = pairOf (getD s j 0) (getD s (j + 1) 0)
 
       other : (l : Line) → of-kind k (with-byte b l) ≡ bad
       other bad = refl

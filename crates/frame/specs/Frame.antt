@@ -5,12 +5,13 @@
 --   numberAt i n bs     the number of n bytes, from the i-th
 --   hexOf bs, lineOf bs the digits of the bytes bs; the line of them
 --   bytesOf n x         the number x as n bytes
--- Assumes nothing.
+--   placed l at vs      l with vs from place `at` on, where there is room; else l
 use mathlib.Core.Bool.{Bool, false, cond}
 use mathlib.Core.List.{List, [], _∷_, _++_}
 use Prim.Native.Nat.{ℕ, zero, suc, _+_, _-_, _*_, _^_, _/_, _%_}
 use lib.Dec.{eqb, ltb, leb}
 use lib.ListN.{length, take, drop}
+use lib.Seq.{sets}
 
 abbrev pub within : ℕ → ℕ → ℕ → Bool
 within low high x = cond (leb low x) (leb x high) false
@@ -71,3 +72,6 @@ lineOf bs = hexOf bs ++ (10 ∷ [])
 unfoldable pub bytesOf : ℕ → ℕ → List ℕ
 bytesOf zero x = []
 bytesOf (suc n) x = bytesOf n (x / 256) ++ (x % 256 ∷ [])
+
+unfoldable pub placed : List ℕ → ℕ → List ℕ → List ℕ
+placed l at vs = cond (leb (at + length vs) (length l)) (sets l at vs) l

@@ -1,3 +1,4 @@
 -- Frames: digits, bytes, numbers, lines; then what the code makes of a line.
 pub mod Frame
-pub mod Decoded
+-- What functions promise each other.
+pub mod inner

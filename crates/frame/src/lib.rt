@@ -5,8 +5,8 @@ ghost use mathlib.Core.List.{_∷_, []};
 ghost use Prim.Native.Nat.{_+_, _*_, _<_, _≤_};
 ghost use lib.ListN.{length, take, drop};
 ghost use lib.Seq.{sets};
-ghost use Rattle.frame.specs.Frame.{digitOf, lineAt, bad, charOf, hexOf, lineOf};
-ghost use Rattle.frame.specs.Decoded.{byteOf, decoded, framed, placed};
+ghost use Rattle.frame.specs.Frame.{digitOf, lineAt, bad, charOf, hexOf, lineOf, placed};
+ghost use Rattle.frame.specs.inner.Decoded.{pairOf, decoded, framed};
 
 // A line's bytes after its kind, or `ok` false. Bytes past the line's are 0.
 pub struct Frame {
@@ -43,7 +43,7 @@ fn char_of(d: u8) -> u8
 
 // The byte of two digits; 256 where one of them is no digit.
 fn byte(high: u8, low: u8) -> u16
-    ensures { λ r. ⌜ r ≡ byteOf high low ⌝ }
+    ensures { λ r. ⌜ r ≡ pairOf high low ⌝ }
 {
     let h = digit(high);
     let l = digit(low);

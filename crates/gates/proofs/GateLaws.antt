@@ -5,7 +5,6 @@
 --   inverses            inverter, NAND, NOR and XNOR give the opposite of buffer, AND, OR and XOR
 --   passes              an output and a buffer give what they see, an inverter the opposite
 --   and-all, or-any, xor-odd, nand-all, nor-any, xnor-even    when each gate gives 1, of a list of bits
--- Assumes nothing.
 use Prim.Native.Nat.{ℕ, zero, suc, _+_, _-_, _%_, _<_, _≤_}
 use native.Mathlib.Omega.{arith}
 use native.Mathlib.Decide.{ℕ-discrete}
@@ -18,7 +17,7 @@ use lib.ListN.{length, getD}
 use borrow.Author.Tests.{eqb-true, eqb-false}
 use Rattle.theory.specs.Gate.{ones, gate}
 use Rattle.theory.proofs.clocks.Gate.{gate-bit}
-use Rattle.gates.specs.Gates.{AllBits}
+use Rattle.gates.specs.inner.Gates.{AllBits}
 use Rattle.gates.proofs.Words.{ones-few}
 
 -- ── How many are 1 ──────────────────────────────────────────────────────────────────────────

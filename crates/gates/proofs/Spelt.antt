@@ -4,7 +4,6 @@
 --   Spelt f k word      bit j of the word is f j below k, and it has no bits at or above k
 --   spelt-none          the word 0, no bit yet
 --   spelt-more          one bit further
--- Assumes nothing.
 use Prim.Native.Nat.{ℕ, suc, _+_, _-_, _*_, _^_, _/_, _%_, _<_, _≤_}
 use native.Mathlib.Omega.{arith}
 use native.Mathlib.Nat.{pow-suc, mul-assoc, add-comm, add-mul-div-right, add-mul-mod-self-right, mod-eq-of-lt}

@@ -6,7 +6,6 @@
 --   ones-few            a sum of bits is no more than how many there are
 --   ones-from           it has the ones of the seed and one for each bit that is 1
 --   works               a word that has the values of a gate of n inputs, one for each number of ones, works
--- Assumes nothing.
 use Prim.Native.Nat.{ℕ, zero, suc, _+_, _-_, _*_, _^_, _/_, _<_, _≤_}
 use native.Mathlib.Omega.{arith}
 use native.Mathlib.Nat.{pow-suc, mul-assoc, mul-le-mul-left}
@@ -19,7 +18,7 @@ use lib.ListN.{length, take, drop, length-take, length-drop}
 use lib.Seq.{drop-cons, getD-take, getD-drop}
 use Rattle.theory.specs.Gate.{ones as total, gateBy, gate}
 use Rattle.graph.specs.Columns.{at, bit}
-use Rattle.gates.specs.Gates.{part, AllBits, wordFrom, worked, Reckons}
+use Rattle.gates.specs.inner.Gates.{part, AllBits, wordFrom, worked, Reckons}
 use Rattle.gates.proofs.Spelt.{Spelt}
 
 -- ── Parts of a list ─────────────────────────────────────────────────────────────────────────

@@ -1,2 +1,2 @@
--- A gate's value from one word.
-pub mod Gates
+-- Nobody outside has to believe anything of this crate: all is what functions promise each other.
+pub mod inner

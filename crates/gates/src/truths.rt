@@ -5,7 +5,7 @@ ghost use Prim.Native.Nat.{ℕ, suc, _+_, _-_, _<_, _≤_, min};
 ghost use lib.ListN.{length};
 ghost use Rattle.theory.specs.Gate.{gateBy};
 ghost use Rattle.graph.specs.Columns.{at};
-ghost use Rattle.gates.specs.Gates.{Reckons, Table};
+ghost use Rattle.gates.specs.inner.Gates.{Reckons, Table};
 
 // 1 where any input is 1.
 fn any(k: u32) -> u32

@@ -4,11 +4,11 @@ ghost use mathlib.Core.List.{List, map};
 ghost use Prim.Native.Nat.{ℕ, suc, _-_, _*_, _^_, _<_, _≤_};
 ghost use Rattle.theory.specs.Gate.{gate};
 ghost use Rattle.graph.specs.Columns.{at};
-ghost use Rattle.gates.specs.Gates.{part, wordFrom, Reckons, Table, Seen, evaluated, Evaluable, Truths};
+ghost use Rattle.gates.specs.inner.Gates.{part, wordFrom, Reckons, Table, InputRows, evaluated, Evaluable, Truths};
 
 // The signals listed from place `start` up to `end` in one word behind `seed`, the first one highest.
 fn gather(list: &[u16], start: usize, end: usize, seed: usize, sig: &[u8]) -> usize
-    requires { ⌜ Seen (seed * 512) (now list) start end (now sig) ⌝ }
+    requires { ⌜ InputRows (seed * 512) (now list) start end (now sig) ⌝ }
     ensures { λ r. ⌜ (r ≡ wordFrom seed (map (at (now (sig .entry))) (part (now (list .entry)) start end))) × (r < suc seed * 2 ^ (end - start)) ⌝ }
 {
     let mut word = seed;
@@ -23,7 +23,7 @@ fn gather(list: &[u16], start: usize, end: usize, seed: usize, sig: &[u8]) -> us
 
 // The value of the gate with this truth word that sees the signals listed from place `start` up to `end`.
 pub fn value(truth: u16, index: &[u8], list: &[u16], start: usize, end: usize, sig: &[u8]) -> u8
-    requires { ⌜ Table (now index) × Seen truth (now list) start end (now sig) ⌝ }
+    requires { ⌜ Table (now index) × InputRows truth (now list) start end (now sig) ⌝ }
     ensures { λ r. ⌜ (r ≤ 1) × ((kind : ℕ) → Reckons kind (end - start) truth → r ≡ gate kind (map (at (now (sig .entry))) (part (now (list .entry)) start end))) ⌝ }
 {
     let word = gather(list, start, end, (truth / 512) as usize, sig);

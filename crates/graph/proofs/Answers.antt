@@ -7,7 +7,6 @@
 --   loop-told           delays 1, labels 0, the period the number of nodes: some time is above it where there is a loop without a register
 --   mark-low            a mark is 0 or 1
 --   from-told           delays 1 at pins and 0 elsewhere, no registers, the period 0: the time is 1 where a pin reaches the node
--- Assumes nothing.
 use Prim.Native.Nat.{ℕ, suc, _≤_, _<_}
 use native.Mathlib.Omega.{arith}
 use native.Mathlib.Decide.{ℕ-discrete, decLt}
@@ -18,23 +17,24 @@ use borrow.Author.Tests.{eq-eqb, ne-eqb}
 use lib.Dec.{eqb}
 use lib.ListN.{length, replicate, getD-replicate}
 use Rattle.theory.specs.Graph.{Graph, Wired}
-use Rattle.theory.specs.Walk.{Walk, one, more, registers, delays, steps, Loop}
-use Rattle.theory.proofs.labels.Label.{Empty, Chain}
-use Rattle.theory.proofs.labels.Arrival.{Arrival}
+use Rattle.theory.specs.Walk.{Walk, one, more, registers, delays, walkSteps, Loop}
+use Rattle.theory.specs.inner.Labels.{Empty, Chain}
+use Rattle.theory.specs.inner.Arrival.{Arrival}
 use Rattle.theory.proofs.walks.Loops.{long-loop, rank-no-loop}
 use Rattle.theory.proofs.walks.Walks.{walk-start}
-use Rattle.graph.specs.Columns.{at, graph, From, Told, Laid}
-use Rattle.graph.specs.Chains.{Asked}
-use Rattle.graph.specs.Marks.{Above, oneIf, markOf}
+use Rattle.graph.specs.Columns.{at, columnGraph}
+use Rattle.graph.specs.inner.Laid.{From, Told, Laid}
+use Rattle.graph.specs.inner.Chains.{ChainColumns}
+use Rattle.graph.specs.inner.Marks.{Above, oneIf, markOf}
 
 -- What the columns promise is what walks ask.
-pub laid-wired : {nodes edges : ℕ} {from to : List ℕ} → Laid nodes edges from to → (kind : List ℕ) → Wired (graph nodes edges kind from to)
+pub laid-wired : {nodes edges : ℕ} {from to : List ℕ} → Laid nodes edges from to → (kind : List ℕ) → Wired (columnGraph nodes edges kind from to)
 laid-wired f kind = record { src-in = f .from-in; dst-in = f .to-in }
 
 -- The engine takes columns of 512 numbers for the delays, of 0 and 1, and for the labels, all 0.
 pub small-asked : {nodes edges : ℕ} {from to count delay lab : List ℕ} {period : ℕ} → Laid nodes edges from to → edges ≤ length count
     → length delay ≡ 512 → ((v : ℕ) → v < nodes → at delay v ≤ 1) → length lab ≡ 512 → ((v : ℕ) → v < nodes → at lab v ≡ 0) → period ≤ 512
-    → Asked nodes edges from to count delay lab period
+    → ChainColumns nodes edges from to count delay lab period
 small-asked f n d ds l ls p = record {
   laid = f;
   count-rows = n;
@@ -62,8 +62,8 @@ module _ {G : Graph} (w : Wired G) (count delay lab : ℕ → ℕ) (d : Even G d
   chain-bare (one h) c = omega arith
   chain-bare (more e h p) c = omega (arith, chain-bare p (c .1), c .0, z (G .src e) (w .src-in e h))
 
-  chain-nodes : {u v : ℕ} (p : Walk G u v) → delays delay p ≡ suc (steps p)
-  unfolding delays steps
+  chain-nodes : {u v : ℕ} (p : Walk G u v) → delays delay p ≡ suc (walkSteps p)
+  unfolding delays walkSteps
   chain-nodes {u} (one h) = omega (arith, d u h)
   chain-nodes (more e h p) = omega (arith, chain-nodes p, d (G .dst e) (w .dst-in e h))
 

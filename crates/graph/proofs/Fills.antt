@@ -1,6 +1,5 @@
 -- A list that a loop fills from the front, one store a turn.
 --   fill-more           one element further
--- Assumes nothing.
 use Prim.Native.Nat.{ℕ, _+_, _<_}
 use native.Mathlib.Omega.{arith}
 use native.Mathlib.Decide.{ℕ-discrete}

@@ -2,12 +2,11 @@
 --   from-input, input-from     kind 0 is an input
 --   to-output, output-from     kind 1 is an output, and the edges are turned round
 --   turned                     a walk of the reversed graph is one of the graph, the other way
--- Assumes nothing.
 use Prim.Native.Nat.{ℕ}
 use Rattle.theory.specs.Graph.{Graph, Wired}
 use Rattle.theory.specs.Walk.{Walk, one, more, FromInput, ToOutput}
 use Rattle.theory.proofs.walks.Walks.{join}
-use Rattle.graph.specs.Columns.{reverse, From}
+use Rattle.graph.specs.inner.Laid.{reverse, From}
 
 pub from-input : {G : Graph} {v : ℕ} → From G 0 v → FromInput G v
 from-input f = record { from = f .start; input = f .kind; walk = f .walk }

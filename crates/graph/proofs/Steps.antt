@@ -10,7 +10,6 @@
 --   start-times         the times to start from
 --   Sweeping            what holds between two sweeps
 --   sweeping-end        times that a sweep leaves alone are the arrival times
--- Assumes nothing.
 use Prim.Native.Nat.{ℕ, suc, _+_, _-_, min, _≤_, _<_}
 use native.Mathlib.Omega.{arith}
 use native.Mathlib.Decide.{ℕ-discrete}
@@ -19,11 +18,12 @@ use mathlib.Core.List.{List}
 use mathlib.Core.Logic.{_≢_}
 use lib.ListN.{length, set, length-set}
 use lib.Seq.{getD-set-same, getD-set-other}
-use Rattle.theory.proofs.labels.Arrival.{Reached, Arrival, Passed, reached-own, reached-edge, settled}
+use Rattle.theory.specs.inner.Arrival.{Reached, Arrival, Passed}
+use Rattle.theory.proofs.labels.Arrival.{reached-own, reached-edge, settled}
 use Rattle.theory.proofs.numbers.Sums.{sum-less}
-use Rattle.graph.specs.Columns.{at, graph}
-use Rattle.graph.specs.Chains.{Asked}
-use Rattle.graph.specs.Sweeps.{raised, Readable, Relaxed, rises, stays, slack, Times, Eased, Swept}
+use Rattle.graph.specs.Columns.{at, columnGraph}
+use Rattle.graph.specs.inner.Chains.{ChainColumns}
+use Rattle.graph.specs.inner.Sweeps.{raised, EdgeReadable, Relaxed, rises, stays, slack, Times, Eased, Swept}
 
 pub relaxed-few : {from to count delay lab : List ℕ} {P : ℕ} {time : List ℕ} {e : ℕ} {after : List ℕ} {c : ℕ}
     → Relaxed from to count delay lab P time e after c → c ≤ 1
@@ -52,9 +52,9 @@ module _ (nodes edges : ℕ) (from to count delay lab : List ℕ) (P : ℕ) wher
     done = λ z k h. absurd (let y : ⊥ = omega arith in y);
   }
 
-  module _ (f : Asked nodes edges from to count delay lab P) where
+  module _ (f : ChainColumns nodes edges from to count delay lab P) where
     -- No time is above the period and one: it is reached.
-    pub times-read : (time : List ℕ) (e : ℕ) → e < edges → Times nodes edges from to count delay lab P time → Readable from to count delay lab P time e
+    pub times-read : (time : List ℕ) (e : ℕ) → e < edges → Times nodes edges from to count delay lab P time → EdgeReadable from to count delay lab P time e
     times-read time e h s = record {
       in-from = omega (arith, f .laid .from-rows);
       in-to = omega (arith, f .laid .to-rows);
@@ -123,14 +123,14 @@ module _ (nodes edges : ℕ) (from to count delay lab : List ℕ) (P : ℕ) wher
           in-nodes
           (omega (arith, same, l))
 
-      reached : (kind : List ℕ) (x : ℕ) → x < nodes → Dec (x ≡ v) → Reached (graph nodes edges kind from to) (at count) (at delay) P (at lab) x (at (set time v t) x)
+      reached : (kind : List ℕ) (x : ℕ) → x < nodes → Dec (x ≡ v) → Reached (columnGraph nodes edges kind from to) (at count) (at delay) P (at lab) x (at (set time v t) x)
       unfolding v t
       reached kind x k (yes z) =
-          subst (λ y. Reached (graph nodes edges kind from to) (at count) (at delay) P (at lab) y (at (set time v t) y)) (sym z)
-          (subst (λ n. Reached (graph nodes edges kind from to) (at count) (at delay) P (at lab) v n) (sym same)
+          subst (λ y. Reached (columnGraph nodes edges kind from to) (at count) (at delay) P (at lab) y (at (set time v t) y)) (sym z)
+          (subst (λ n. Reached (columnGraph nodes edges kind from to) (at count) (at delay) P (at lab) v n) (sym same)
           (reached-edge (at count) (at delay) P (at lab) e (at time (at from e)) h q (s .reached kind (at from e) (f .laid .from-in e h))))
       reached kind x k (no z) =
-          subst (λ n. Reached (graph nodes edges kind from to) (at count) (at delay) P (at lab) x n) (sym (other x z)) (s .reached kind x k)
+          subst (λ n. Reached (columnGraph nodes edges kind from to) (at count) (at delay) P (at lab) x n) (sym (other x z)) (s .reached kind x k)
 
       raise-times : Times nodes edges from to count delay lab P (set time v t)
       raise-times = record {
@@ -183,7 +183,7 @@ module _ (nodes edges : ℕ) (from to count delay lab : List ℕ) (P : ℕ) wher
     rows = rows;
     own = λ v h. omega (arith, t v h);
     reached = λ kind v h.
-        subst (λ n. Reached (graph nodes edges kind from to) (at count) (at delay) P (at lab) v n) (sym (t v h))
+        subst (λ n. Reached (columnGraph nodes edges kind from to) (at count) (at delay) P (at lab) v n) (sym (t v h))
         (reached-own (at count) (at delay) P (at lab) v h);
   }
 
@@ -191,11 +191,11 @@ module _ (nodes edges : ℕ) (from to count delay lab : List ℕ) (P : ℕ) wher
   pub record Sweeping (before time : List ℕ) (r : ℕ) : Type 0 where
     pub size : length time ≡ length before
     pub times : Times nodes edges from to count delay lab P time
-    pub settled : r ≡ 0 → (kind : List ℕ) → Passed (graph nodes edges kind from to) (at count) (at delay) P (at lab) (at time) (at time)
+    pub settled : r ≡ 0 → (kind : List ℕ) → Passed (columnGraph nodes edges kind from to) (at count) (at delay) P (at lab) (at time) (at time)
 
   -- Along a chain, edge by edge: no edge asks for more than its end's time, so the chain does not either (`settled`).
   pub sweeping-end : (before time : List ℕ) (r : ℕ) → r ≡ 0 → Sweeping before time r
-      → (kind : List ℕ) → Arrival (graph nodes edges kind from to) (at count) (at delay) P (at lab) (at time)
+      → (kind : List ℕ) → Arrival (columnGraph nodes edges kind from to) (at count) (at delay) P (at lab) (at time)
   sweeping-end before time r z s kind = record {
     within = λ u v p c. settled (at count) (at delay) P (at lab) (at time) (s .times .own) (s .settled z kind) p c;
     reached = s .times .reached kind;

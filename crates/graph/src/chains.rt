@@ -4,8 +4,8 @@ ghost use mathlib.Core.Path.{_≡_};
 ghost use Prim.Native.Nat.{ℕ, suc, _+_, _≤_, _<_, min};
 ghost use lib.ListN.{length};
 ghost use Rattle.graph.specs.Columns.{at};
-ghost use Rattle.graph.specs.Chains.{Asked, Arrivals};
-ghost use Rattle.graph.specs.Sweeps.{Readable, Relaxed, Times, Eased, Swept, Listed};
+ghost use Rattle.graph.specs.inner.Chains.{ChainColumns, Arrivals};
+ghost use Rattle.graph.specs.inner.Sweeps.{EdgeReadable, Relaxed, Times, Eased, Swept, EdgeList};
 
 // A time and a delay, where all above the period is the period and one.
 fn later(t: u32, d: u32, period: u32) -> u32
@@ -40,7 +40,7 @@ fn relax<'a>(
     period: u32,
     time: &mut [u32],
 ) -> u32
-    requires { ⌜ Readable (now from) (now to) (now count) (now delay) (now lab) period (now time) e ⌝ }
+    requires { ⌜ EdgeReadable (now from) (now to) (now count) (now delay) (now lab) period (now time) e ⌝ }
     ensures { λ r. ⌜ Relaxed (now (from .entry)) (now (to .entry)) (now (count .entry)) (now (delay .entry)) (now (lab .entry)) period (now (time .entry)) e (now (time .exit)) r ⌝ }
 {
     let u = from[e] as usize;
@@ -67,7 +67,7 @@ fn sweep<'a>(
     period: u32,
     time: &mut [u32],
 ) -> u32
-    requires { ⌜ Asked nodes edges (now from) (now to) (now count) (now delay) (now lab) period ⌝ }
+    requires { ⌜ ChainColumns nodes edges (now from) (now to) (now count) (now delay) (now lab) period ⌝ }
     requires { ⌜ Times nodes edges (now from) (now to) (now count) (now delay) (now lab) period (now time) ⌝ }
     ensures { λ r. ⌜ Swept nodes edges (now (from .entry)) (now (to .entry)) (now (count .entry)) (now (delay .entry)) (now (lab .entry)) period (now (time .entry)) (now (time .exit)) r ⌝ }
 {
@@ -92,7 +92,7 @@ fn sweep_back<'a>(
     period: u32,
     time: &mut [u32],
 )
-    requires { ⌜ Asked nodes edges (now from) (now to) (now count) (now delay) (now lab) period ⌝ }
+    requires { ⌜ ChainColumns nodes edges (now from) (now to) (now count) (now delay) (now lab) period ⌝ }
     requires { ⌜ Times nodes edges (now from) (now to) (now count) (now delay) (now lab) period (now time) ⌝ }
     ensures { λ _. ⌜ Eased nodes edges (now (from .entry)) (now (to .entry)) (now (count .entry)) (now (delay .entry)) (now (lab .entry)) period (now (time .entry)) (now (time .exit)) ⌝ }
 {
@@ -115,7 +115,7 @@ pub fn settle<'a>(
     period: u32,
     time: &mut [u32],
 )
-    requires { ⌜ Asked nodes edges (now from) (now to) (now count) (now delay) (now lab) period ⌝ }
+    requires { ⌜ ChainColumns nodes edges (now from) (now to) (now count) (now delay) (now lab) period ⌝ }
     requires { ⌜ nodes ≤ length (now time) ⌝ }
     ensures { λ _. ⌜ Arrivals nodes edges (now (from .entry)) (now (to .entry)) (now (count .entry)) (now (delay .entry)) (now (lab .entry)) period (now (time .exit)) ⌝ }
 {
@@ -140,9 +140,9 @@ fn sweep_along<'a>(
     period: u32,
     time: &mut [u32],
 )
-    requires { ⌜ Asked nodes edges (now from) (now to) (now count) (now delay) (now lab) period ⌝ }
+    requires { ⌜ ChainColumns nodes edges (now from) (now to) (now count) (now delay) (now lab) period ⌝ }
     requires { ⌜ Times nodes edges (now from) (now to) (now count) (now delay) (now lab) period (now time) ⌝ }
-    requires { ⌜ Listed (now order) edges ⌝ }
+    requires { ⌜ EdgeList (now order) edges ⌝ }
     ensures { λ _. ⌜ Eased nodes edges (now (from .entry)) (now (to .entry)) (now (count .entry)) (now (delay .entry)) (now (lab .entry)) period (now (time .entry)) (now (time .exit)) ⌝ }
 {
     let mut i = 0;
@@ -166,8 +166,8 @@ pub fn settle_along<'a>(
     period: u32,
     time: &mut [u32],
 )
-    requires { ⌜ Asked nodes edges (now from) (now to) (now count) (now delay) (now lab) period ⌝ }
-    requires { ⌜ (nodes ≤ length (now time)) × Listed (now order) edges ⌝ }
+    requires { ⌜ ChainColumns nodes edges (now from) (now to) (now count) (now delay) (now lab) period ⌝ }
+    requires { ⌜ (nodes ≤ length (now time)) × EdgeList (now order) edges ⌝ }
     ensures { λ _. ⌜ Arrivals nodes edges (now (from .entry)) (now (to .entry)) (now (count .entry)) (now (delay .entry)) (now (lab .entry)) period (now (time .exit)) ⌝ }
 {
     start_times(delay, nodes, period, time);

@@ -8,13 +8,14 @@ ghost use Prim.Native.Nat.{ℕ, _≤_, _<_};
 ghost use lib.Dec.{eqb};
 ghost use lib.ListN.{length};
 ghost use Rattle.theory.specs.Walk.{Loop};
-ghost use Rattle.graph.specs.Columns.{at, graph, fan-in, From, Told, Laid};
-ghost use Rattle.graph.specs.Marks.{Above, markOf};
+ghost use Rattle.graph.specs.Columns.{at, columnGraph, fan-in};
+ghost use Rattle.graph.specs.inner.Laid.{From, Told, Laid};
+ghost use Rattle.graph.specs.inner.Marks.{Above, markOf};
 
 // How many edges enter each node.
 pub fn fan_ins<'a>(from: &'a [u16], to: &'a [u16], nodes: usize, edges: usize) -> [u16; 512]
     requires { ⌜ Laid nodes edges (now from) (now to) ⌝ }
-    ensures { λ r. ⌜ ((kind : List ℕ) (v : ℕ) → v < nodes → at r v ≡ fan-in (graph nodes edges kind (now (from .entry)) (now (to .entry))) v) ⌝ }
+    ensures { λ r. ⌜ ((kind : List ℕ) (v : ℕ) → v < nodes → at r v ≡ fan-in (columnGraph nodes edges kind (now (from .entry)) (now (to .entry))) v) ⌝ }
 {
     let mut ins = [0u16; 512];
     count_keys(to, edges, nodes, &mut ins);
@@ -45,7 +46,7 @@ pub fn looped<'a>(
     edges: usize,
 ) -> bool
     requires { ⌜ Laid nodes edges (now from) (now to) × (edges ≤ length (now count)) ⌝ }
-    ensures { λ r. ⌜ ((kind : List ℕ) → Told r (Loop (graph nodes edges kind (now (from .entry)) (now (to .entry))) (at (now (count .entry))))) ⌝ }
+    ensures { λ r. ⌜ ((kind : List ℕ) → Told r (Loop (columnGraph nodes edges kind (now (from .entry)) (now (to .entry))) (at (now (count .entry))))) ⌝ }
 {
     let ones = [1u32; 512];
     let zeros = [0u32; 512];
@@ -97,7 +98,7 @@ pub fn reached<'a>(
     edges: usize,
 ) -> [u32; 512]
     requires { ⌜ Laid nodes edges (now from) (now to) × (nodes ≤ length (now kind)) ⌝ }
-    ensures { λ r. ⌜ ((v : ℕ) → v < nodes → Told (eqb (at r v) 1) (From (graph nodes edges (now (kind .entry)) (now (from .entry)) (now (to .entry))) pin v)) ⌝ }
+    ensures { λ r. ⌜ ((v : ℕ) → v < nodes → Told (eqb (at r v) 1) (From (columnGraph nodes edges (now (kind .entry)) (now (from .entry)) (now (to .entry))) pin v)) ⌝ }
 {
     let own = marks(kind, pin, nodes);
     let none = [0u8; 1024];

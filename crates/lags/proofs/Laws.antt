@@ -1,7 +1,6 @@
 -- For users: what reads is what `least` asks for, and the lag of a label in the theory's words.
 --   read-sure           a netlist that reads is one that `least` takes
 --   lag-label           label = 16,384 + lag
--- Assumes nothing.
 use Prim.Native.Nat.{ℕ}
 use mathlib.Core.List.{List}
 use Rattle.theory.proofs.labels.Bias.{Label, label-lag}
@@ -10,7 +9,7 @@ use Rattle.netlist.specs.Answer.{value}
 use Rattle.netlist.specs.Read.{Reads}
 use Rattle.netlist.proofs.theorems.Lines.{lines-fact}
 use Rattle.netlist.proofs.theorems.Sound.{reads-value, read-is-sound}
-use Rattle.lags.specs.Lags.{lagOf, Sure}
+use Rattle.lags.specs.inner.Lags.{lagOf, Sure}
 
 pub read-sure : (t : List ℕ) (net : Netlist) → Reads t (value 0) net → Sure net
 read-sure t net r = record { fit = lines-fact t net .0 (reads-value r .0) .0; fed = read-is-sound t net r .from-input }

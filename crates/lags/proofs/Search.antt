@@ -9,7 +9,6 @@
 --   search-found        no node is late: the labels are those of the least retiming
 --   search-pin          a pin is late: no legal retiming meets the period
 --   search-last         after as many rounds as nodes: the least, or there is none
--- Assumes nothing.
 use Prim.Native.Nat.{ℕ, suc, _+_, _*_, _≤_, _<_}
 use native.Mathlib.Omega.{arith}
 use native.Mathlib.Nat.{mul-le-mul}
@@ -25,16 +24,17 @@ use Rattle.theory.proofs.labels.Start.{Distance, First}
 use Rattle.theory.proofs.labels.Stop.{After, round, after-near}
 use Rattle.theory.proofs.labels.Arrival.{time-late, times-round, times-no-late-pin, times-none}
 use Rattle.theory.proofs.labels.Answer.{ready, answer-least, answer-pin, answer-rounds}
-use Rattle.graph.specs.Columns.{at, Told}
-use Rattle.graph.specs.Marks.{Above}
+use Rattle.graph.specs.Columns.{at}
+use Rattle.graph.specs.inner.Laid.{Told}
+use Rattle.graph.specs.inner.Marks.{Above}
 use Rattle.netlist.specs.declared.Netlist.{Netlist}
 use Rattle.netlist.specs.Net.{graphOf, regsOf, delayOf}
 use Rattle.netlist.proofs.Fits.{clash}
 use Rattle.netlist.proofs.Run.{fit-wired}
 use Rattle.netlist.proofs.Lowest.{few}
-use Rattle.lags.specs.Lags.{lagOf, Sure, Leasts}
-use Rattle.lags.specs.Starts.{Begun}
-use Rattle.lags.specs.Rounds.{Low, Arrived, LatePin, Lifted}
+use Rattle.lags.specs.inner.Lags.{lagOf, Sure, Leasts}
+use Rattle.lags.specs.inner.Starts.{FirstLabels}
+use Rattle.lags.specs.inner.Rounds.{Low, Arrived, LatePin, Lifted}
 use Rattle.lags.proofs.Laws.{lag-label}
 use Rattle.lags.proofs.Starts.{measured-distance, begun-first}
 
@@ -99,7 +99,7 @@ module _ (nodes P : ℕ) (time before : List ℕ) where
 
 pub record Searching (net : Netlist) (P : ℕ) (first lab : List ℕ) (k : ℕ) : Type 0 where
   pub sure : Sure net
-  pub begun : Begun net first
+  pub begun : FirstLabels net first
   pub rounds : k ≤ 512
   pub size : length lab ≡ 512
   pub after : After (graphOf net) (regsOf net .count) (delayOf net) P (at first) (at lab) k

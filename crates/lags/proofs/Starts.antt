@@ -8,7 +8,6 @@
 --   edge-reads          the edge's numbers are in their ranges
 --   state-keep, state-shorten, state-end      an edge that offers nothing; one that offers a shorter way; after the last edge
 --   measured-distance, begun-first            the distances and the labels in the theory's words
--- Assumes nothing.
 use Prim.Native.Nat.{ℕ, _+_, _≤_, _<_}
 use native.Mathlib.Omega.{arith}
 use native.Mathlib.Decide.{ℕ-discrete, decLe}
@@ -21,23 +20,24 @@ use borrow.Author.Tests.{le-leb, lt-leb}
 use Rattle.theory.specs.Graph.{Pin}
 use Rattle.theory.proofs.numbers.Sums.{sum-less}
 use Rattle.theory.proofs.walks.Short.{short-walk, few-registers}
-use Rattle.theory.proofs.labels.Start.{FromPin, from-pin, from-edge, Distance, First}
+use Rattle.theory.specs.inner.Arrival.{FromPin}
+use Rattle.theory.proofs.labels.Start.{from-pin, from-edge, Distance, First}
 use Rattle.graph.specs.Columns.{at}
 use Rattle.netlist.specs.declared.Netlist.{Netlist}
 use Rattle.netlist.specs.Net.{graphOf, regsOf}
 use Rattle.netlist.proofs.Fits.{edge-fits}
 use Rattle.netlist.proofs.Run.{fit-rows, fit-wired}
 use Rattle.netlist.proofs.Lowest.{few}
-use Rattle.lags.specs.Lags.{Sure}
-use Rattle.lags.specs.Starts.{startOf, reach, Far, Passed, Shortened, Measured, Begun}
+use Rattle.lags.specs.inner.Lags.{Sure}
+use Rattle.lags.specs.inner.Starts.{startOf, distanceSum, Far, NoShorter, Shortened, Measured, FirstLabels}
 
 -- r is 1 where a distance has changed.
 pub record State (net : Netlist) (before far : List ℕ) (r e : ℕ) : Type 0 where
   pub done : e ≤ net .edges
   pub size : length far ≡ length before
   pub ways : Far net far
-  pub fallen : reach net far + r ≤ reach net before
-  pub passed : r ≡ 0 → Passed net far e
+  pub fallen : distanceSum net far + r ≤ distanceSum net before
+  pub passed : r ≡ 0 → NoShorter net far e
 
 pub record Edge (net : Netlist) (far : List ℕ) (e : ℕ) : Type 0 where
   pub row : e < 1024
@@ -52,7 +52,7 @@ pub record Edge (net : Netlist) (far : List ℕ) (e : ℕ) : Type 0 where
 pub record Sweeping (net : Netlist) (far : List ℕ) (r : ℕ) : Type 0 where
   pub size : length far ≡ 512
   pub ways : Far net far
-  pub passed : r ≡ 0 → Passed net far (net .edges)
+  pub passed : r ≡ 0 → NoShorter net far (net .edges)
 
 module _ (net : Netlist) (s : Sure net) where
   count-few : (e : ℕ) → e < net .edges → at (net .count) e ≤ 32
@@ -158,7 +158,7 @@ module _ (net : Netlist) (s : Sure net) where
         fall x (yes z) = subst (λ y. at (set far v d) y ≤ at far y) (sym z) (omega (arith, same, l))
         fall x (no z) = omega (arith, other x z)
 
-        falls : reach net (set far v d) < reach net far
+        falls : distanceSum net (set far v d) < distanceSum net far
         falls =
             sum-less (λ x. at (set far v d) x) (λ x. at far x) (net .nodes) v
             (λ x k. fall x (ℕ-discrete x v))
@@ -184,7 +184,7 @@ module _ (net : Netlist) (s : Sure net) where
     reached = m .ways .reached;
   }
 
-  pub begun-first : (lab : List ℕ) (b : Begun net lab) → First (graphOf net) 16384 (at (b .far)) (at lab)
+  pub begun-first : (lab : List ℕ) (b : FirstLabels net lab) → First (graphOf net) 16384 (at (b .far)) (at lab)
   begun-first lab b v h = go (decLe (at (net .kind) v) 1)
     where
       go : Dec (Pin (graphOf net) v) → (Pin (graphOf net) v × (at lab v ≡ 16384)) ⊎ (¬ Pin (graphOf net) v × (at lab v + at (b .far) v ≡ 16384))

@@ -1,5 +1,2 @@
--- What the crate promises.
-pub mod Lags
--- What its inner functions promise each other: the labels to start from, and the rounds.
-pub mod Starts
-pub mod Rounds
+-- Nobody outside has to believe anything of this crate: all is what functions promise each other.
+pub mod inner

@@ -9,11 +9,12 @@ use netlist::Netlist;
 ghost use mathlib.Core.Path.{_≡_};
 ghost use Prim.Native.Nat.{_≤_, _<_};
 ghost use lib.ListN.{length};
-ghost use Rattle.graph.specs.Columns.{at, Told};
-ghost use Rattle.graph.specs.Sweeps.{Listed};
+ghost use Rattle.graph.specs.Columns.{at};
+ghost use Rattle.graph.specs.inner.Laid.{Told};
+ghost use Rattle.graph.specs.inner.Sweeps.{EdgeList};
 ghost use Rattle.netlist.specs.Net.{working};
-ghost use Rattle.lags.specs.Lags.{Sure, Leasts};
-ghost use Rattle.lags.specs.Rounds.{Delayed, Low, Arrived, LatePin, Lifted};
+ghost use Rattle.lags.specs.inner.Lags.{Sure, Leasts};
+ghost use Rattle.lags.specs.inner.Rounds.{Delayed, Low, Arrived, LatePin, Lifted};
 
 // "delay times derate, divided by 100, rounded to the nearest whole, a half upward."
 fn working(delay: u8, derate: u8) -> u32
@@ -39,7 +40,7 @@ fn working_delays(delay: &[u8], derate: u8, nodes: usize) -> [u32; 512]
 // The edges in an order in which the sweeps of a round have little to do.
 fn order_of(net: Netlist) -> [u16; 1024]
     requires { ⌜ Sure net ⌝ }
-    ensures { λ r. ⌜ Listed r (net .edges) ⌝ }
+    ensures { λ r. ⌜ EdgeList r (net .edges) ⌝ }
 {
     let nodes = net.nodes as usize;
     let edges = net.edges as usize;
@@ -51,7 +52,7 @@ fn arrivals(net: Netlist, order: &[u16], delay: &[u32], lab: &[u32], period: u32
     requires { ⌜ Sure net × (period < 1000000) ⌝ }
     requires { ⌜ Delayed (net .delay) (net .derate) (net .nodes) (now delay) × (net .nodes ≤ length (now delay)) ⌝ }
     requires { ⌜ Low (net .nodes) (now lab) × (net .nodes ≤ length (now lab)) ⌝ }
-    requires { ⌜ Listed (now order) (net .edges) ⌝ }
+    requires { ⌜ EdgeList (now order) (net .edges) ⌝ }
     ensures { λ r. ⌜ Arrived net period (now (lab .entry)) r ⌝ }
 {
     let mut time = [0u32; 512];

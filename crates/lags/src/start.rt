@@ -5,8 +5,8 @@ ghost use mathlib.Core.Path.{_≡_};
 ghost use Prim.Native.Nat.{ℕ, _+_, _≤_, _<_};
 ghost use lib.ListN.{length};
 ghost use Rattle.graph.specs.Columns.{at};
-ghost use Rattle.lags.specs.Lags.{Sure};
-ghost use Rattle.lags.specs.Starts.{startOf, Far, Shortened, Measured, Begun};
+ghost use Rattle.lags.specs.inner.Lags.{Sure};
+ghost use Rattle.lags.specs.inner.Starts.{startOf, Far, Shortened, Measured, FirstLabels};
 
 // Above every distance from a pin: 511 edges of 32 registers are 16,352.
 const BIAS: u32 = 16384;
@@ -84,7 +84,7 @@ fn labels_from(far: &[u32], nodes: usize) -> [u32; 512]
 // The labels to start from.
 pub fn first_labels(net: Netlist) -> [u32; 512]
     requires { ⌜ Sure net ⌝ }
-    ensures { λ r. ⌜ Begun net r ⌝ }
+    ensures { λ r. ⌜ FirstLabels net r ⌝ }
 {
     let far = distances(net);
     labels_from(&far, net.nodes as usize)

@@ -5,7 +5,6 @@
 --   lists-done          the new text and these lines
 --   lists-refused       the line of a refusal
 --   front-is, shows     what is printed of a text is what is printed of its first 32,768 bytes
--- Assumes nothing.
 use Prim.Native.Nat.{ℕ, _+_, _*_, _≤_, _<_, min}
 use native.Mathlib.Omega.{arith}
 use native.Mathlib.Decide.{decLe}
@@ -17,14 +16,14 @@ use lib.IntN.{ℤ, pos}
 use lib.ListN.{length, take, drop, getD, replicate, length-append, length-drop, drop-of-length-le}
 use lib.Seq.{sets, sets-eq, take-all, take-at, drop-append-add, drop-drop, length-take-le}
 use Rattle.theory.specs.Lag.{up, down}
-use Rattle.frame.specs.Decoded.{placed}
+use Rattle.frame.specs.Frame.{placed}
 use Rattle.frame.proofs.Laws.{placed-room}
 use Rattle.netlist.specs.declared.Netlist.{Netlist}
 use Rattle.netlist.specs.declared.Place.{Place}
 use Rattle.netlist.specs.declared.Place.the-variants.{Whole, Line, Node, Edge}
 use Rattle.netlist.specs.declared.Answer.{Answer}
 use Rattle.netlist.specs.declared.Answer.the-variants.{Done, Refused}
-use Rattle.netlist.specs.Answer.{Says, value, says, holds}
+use Rattle.netlist.specs.Answer.{Said, value, says, holds}
 use Rattle.netlist.specs.Net.{zeros}
 use Rattle.netlist.specs.Read.{Reads}
 use Rattle.netlist.specs.Write.{joined, textOf}
@@ -43,27 +42,27 @@ use Rattle.retime.proofs.theorems.Refusals.{nothing-touched}
 use Rattle.show.specs.Shown.{refusalLine, lineIn}
 use Rattle.show.proofs.Printed.{counted, refusal-length}
 use Rattle.list.specs.declared.Printed.{Printed}
-use Rattle.list.specs.Listed.{lagLine, listed, Prints, Shows}
-use Rattle.list.specs.Lists.{Lists}
+use Rattle.list.specs.Listed.{lagLine, listed, Prints, PrintsWhole}
+use Rattle.list.specs.inner.Lists.{Lists}
 use Rattle.list.proofs.Lines.{lag-length}
 use Rattle.list.proofs.More.{more-decides-nothing}
 
 -- ── The buffer decides nothing ──────────────────────────────────────────────────────────────
 
 -- The moved netlist's text is as long as the original's.
-new-length : {t : List ℕ} {net new : Netlist} {r : ℕ → ℤ} {s : Says} {k : ℕ} → Reads t (value 0) net → Moves net r s new → s ≡ value k → length (textOf new) ≡ length t
+new-length : {t : List ℕ} {net new : Netlist} {r : ℕ → ℤ} {s : Said} {k : ℕ} → Reads t (value 0) net → Moves net r s new → s ≡ value k → length (textOf new) ≡ length t
 new-length h (wide e w z) q = clash (cc)
 new-length h (many n x z) q = clash (cc)
 new-length h (startless n x y z) q = clash (cc)
 new-length {t} {net} {r = r} h (moved n x c b z y) q = ap (λ m. length (textOf m)) y ∙ same-length t net r c h
 
 -- The same outcome in a buffer as long as the text.
-record Fitted (t : List ℕ) (lags : List ℤ) (s : Says) (mid : List ℕ) (lags′ : List ℤ) : Type 0 where
+record Fitted (t : List ℕ) (lags : List ℤ) (s : Said) (mid : List ℕ) (lags′ : List ℤ) : Type 0 where
   pub new : List ℕ
   pub retimes : Retimes t (zeros (length t)) lags s new lags′
   pub same : (k : ℕ) → s ≡ value k → take (length t) mid ≡ new
 
-fitted : {t old mid : List ℕ} {lags lags′ : List ℤ} {s : Says} → length t ≤ length old → Retimes t old lags s mid lags′ → Fitted t lags s mid lags′
+fitted : {t old mid : List ℕ} {lags lags′ : List ℤ} {s : Said} → length t ≤ length old → Retimes t old lags s mid lags′ → Fitted t lags s mid lags′
 fitted {t} room (unread q k p net h u) =
     record { new = zeros (length t); retimes = unread q k p net h (record { answer = u .answer; buffer = refl; table = u .table }); same = λ n e. let g = u .answer in clash (cc) }
 fitted room (twelve net h (inl x) u) = absurd (let z : ⊥ = omega arith in z)
@@ -96,7 +95,7 @@ record Came (t old mid : List ℕ) : Type 0 where
   pub long : length new ≡ length t
   pub front : mid ≡ new ++ drop (length new) old
 
-came : {t old mid : List ℕ} {before lags : List ℤ} {s : Says} {k : ℕ} → Retimes t old before s mid lags → s ≡ value k → Came t old mid
+came : {t old mid : List ℕ} {before lags : List ℤ} {s : Said} {k : ℕ} → Retimes t old before s mid lags → s ≡ value k → Came t old mid
 came (unread q k p net r u) e = let g = u .answer in clash (cc)
 came (twelve net r h u) e = let g = u .answer in clash (cc)
 came (eight net h m n u) e = let g = u .answer in clash (cc)
@@ -206,7 +205,7 @@ front-is t n e = go (decLe (length t) 32768)
     go (yes h) = take-all n t (omega arith) ∙ sym (take-all 32768 t h)
     go (no h) = ap (λ m. take m t) (let q : n ≡ 32768 = omega arith in q)
 
-pub shows : (t old front : List ℕ) (r : Printed) → old ≡ zeros 38400 → front ≡ take 32768 t → Lists front old (r .len) (r .bytes) → Shows t r
+pub shows : (t old front : List ℕ) (r : Printed) → old ≡ zeros 38400 → front ≡ take 32768 t → Lists front old (r .len) (r .bytes) → PrintsWhole t r
 shows t old front r o f x =
     record {
       printed = x .printed;

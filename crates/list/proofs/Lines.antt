@@ -2,7 +2,6 @@
 --   bias-sum            a lag and 32,768
 --   small-fits          such a lag is a 32-bit number
 --   lag-length          a line has 11 bytes
--- Assumes nothing.
 use Prim.Native.Nat.{ℕ, suc, _+_, _-_, _≤_, _<_}
 use native.Mathlib.Omega.{arith}
 use mathlib.Core.Path.{_≡_, ap}

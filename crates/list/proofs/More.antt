@@ -2,7 +2,6 @@
 --   refusal-printed, prints-refusal    of a text that does not read its refusal's line is printed, and only that
 --   long-refused                       a long text does not read
 --   more-decides-nothing
--- Assumes nothing.
 use Prim.Native.Nat.{ℕ, _<_, _≤_}
 use native.Mathlib.Omega.{arith}
 use native.Mathlib.Decide.{decLe}
@@ -13,7 +12,7 @@ use lib.IntN.{pos}
 use lib.ListN.{length, take, replicate}
 use lib.Seq.{take-all}
 use Rattle.netlist.specs.declared.Netlist.{Netlist}
-use Rattle.netlist.specs.Answer.{Says, value, refused}
+use Rattle.netlist.specs.Answer.{Said, value, refused}
 use Rattle.netlist.specs.Net.{zeros}
 use Rattle.netlist.specs.Read.{Reads}
 use Rattle.netlist.proofs.Run.{fit-rows}
@@ -50,7 +49,7 @@ module _ {t : List ℕ} {q k p : ℕ} {net : Netlist} (h : Reads t (refused q k 
 long-refused : (t : List ℕ) → 25105 < length t → (q : ℕ) × (k : ℕ) × (p : ℕ) × (net : Netlist) × Reads t (refused q k p) net
 long-refused t long = go (some-reading t)
   where
-    go : (s : Says) × (net : Netlist) × Reads t s net → (q : ℕ) × (k : ℕ) × (p : ℕ) × (net : Netlist) × Reads t (refused q k p) net
+    go : (s : Said) × (net : Netlist) × Reads t s net → (q : ℕ) × (k : ℕ) × (p : ℕ) × (net : Netlist) × Reads t (refused q k p) net
     go (refused q k p, net, h) = (q, k, p, net, h)
     go (value n, net, h) =
         let f = lines-fact t net .0 (reads-value h .0) in

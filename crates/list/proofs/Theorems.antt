@@ -1,7 +1,6 @@
 -- The theorems of specs/Theorems.
 --   some-print, one-print
 --   page?, pages-hold   each card is one test that antt computes, beside its row of retime's table
--- Assumes nothing.
 use Prim.Native.Nat.{ℕ}
 use Prim.Native.String.{String}
 use native.Mathlib.Omega.{arith}

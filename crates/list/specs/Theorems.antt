@@ -3,7 +3,6 @@
 --   MoreDecidesNothing    what is printed of a text is what is printed of its front
 --   Page, pages           the bench cards, with the lines that are printed after the new text
 --   PagesHold             they are printed so
--- Assumes nothing.
 use mathlib.Core.Path.{_≡_}
 use mathlib.Core.Logic.{_↔_}
 use mathlib.Core.List.{List, [], _∷_, _++_}

@@ -9,8 +9,8 @@ ghost use Rattle.theory.specs.Lag.{up, down};
 ghost use Rattle.frame.specs.Frame.{bytesOf};
 ghost use Rattle.netlist.specs.Net.{zeros};
 ghost use Rattle.netlist.specs.Write.{joined};
-ghost use Rattle.list.specs.Listed.{twos, lagLine, Shows};
-ghost use Rattle.list.specs.Lists.{Lists};
+ghost use Rattle.list.specs.Listed.{twos, lagLine, PrintsWhole};
+ghost use Rattle.list.specs.inner.Lists.{Lists};
 use netlist::Answer;
 
 // A lag and 32,768.
@@ -99,7 +99,7 @@ fn blank() -> [u8; 38400]
 
 // What the program `listing` prints of a text, of any length.
 pub fn listing(text: &[u8]) -> Printed
-    ensures { λ r. ⌜ Shows (now (text .entry)) r ⌝ }
+    ensures { λ r. ⌜ PrintsWhole (now (text .entry)) r ⌝ }
 {
     let mut bytes = blank();
     let n = looked_at(text.len());

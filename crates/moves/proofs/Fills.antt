@@ -1,5 +1,4 @@
 -- A column filled from the front, a row at a time.
--- Assumes nothing.
 use Prim.Native.Nat.{ℕ, _+_, _<_}
 use native.Mathlib.Omega.{arith}
 use mathlib.Core.Path.{_≡_, _∙_}
@@ -10,7 +9,7 @@ use Rattle.graph.specs.Columns.{at}
 use Rattle.graph.proofs.Fills.{fill-more}
 use Rattle.netlist.specs.Net.{zeros}
 use Rattle.netlist.proofs.Rows.{zeros-at}
-use Rattle.moves.specs.Moved.{Filled, none}
+use Rattle.moves.specs.inner.Columns.{Filled, none}
 
 module _ (f rest : ℕ → ℕ) (xs : List ℕ) where
   pub filled-none : ((e : ℕ) → at xs e ≡ rest e) → Filled f rest 0 xs

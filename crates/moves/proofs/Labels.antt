@@ -5,7 +5,6 @@
 --   wide-edge, wide-none    the lowest count above 32 is retiming's
 --   all-more            one further
 --   sum-more, sum-grows, base-none, chosen-is    running sums
--- Assumes nothing.
 use Prim.Native.Nat.{ℕ, zero, suc, _+_, _-_, _≤_, _<_, min}
 use native.Mathlib.Omega.{arith}
 use native.Mathlib.Numerals.{add-one}
@@ -26,9 +25,9 @@ use Rattle.graph.specs.Columns.{at}
 use Rattle.netlist.specs.declared.Netlist.{Netlist}
 use Rattle.netlist.specs.Net.{graphOf, regsOf}
 use Rattle.netlist.proofs.Run.{fit-rows, fit-wired}
-use Rattle.lags.specs.Lags.{lagOf}
+use Rattle.lags.specs.inner.Lags.{lagOf}
 use Rattle.lags.proofs.Laws.{lag-label}
-use Rattle.moves.specs.Labels.{lagsOf, Labelled, countAt, Counts, Wide, chosenAt}
+use Rattle.moves.specs.inner.Labels.{lagsOf, Labelled, countAt, Counts, Wide, chosenAt}
 
 pub up-high : (l : ℕ) → 16384 < l → l - 16384 ≡ up (lagOf l)
 up-high l h = let q = lag-label l in omega (arith, q, no-down (lagOf l) (omega (arith, q)))

@@ -2,7 +2,6 @@
 --   count-alike, chosen-alike    the new counts, and how many values are chosen
 --   regs-alike          the retimed registers
 --   legal-alike, least-alike, best-alike, no-start-alike    what is legal, least, taken or without a start stays so
--- Assumes nothing.
 use Prim.Native.Nat.{ℕ, _+_, _<_, _≤_}
 use native.Mathlib.Omega.{arith}
 use mathlib.Core.Path.{_≡_, refl, sym, ap, ap₂, _∙_}
@@ -12,7 +11,8 @@ use lib.Dec.{ltb}
 use lib.IntN.{ℤ}
 use Rattle.theory.specs.Graph.{Graph, Wired}
 use Rattle.theory.specs.Walk.{Walk, one, more, registers}
-use Rattle.theory.specs.Clock.{Regs, SameRegs, value}
+use Rattle.theory.specs.Clock.{Regs, value}
+use Rattle.theory.specs.inner.Registers.{SameRegs}
 use Rattle.theory.specs.Lag.{up, down, newCount, Legal, Least}
 use Rattle.theory.specs.Move.{moveIf, move, quiet, sum, chosenOn, chosenIn, digit, choiceOf, Best}
 use Rattle.theory.specs.Retimer.{Sound, NoStart, retimed}

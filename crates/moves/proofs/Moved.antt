@@ -4,7 +4,6 @@
 --   with-regs           its circuit has these registers
 --   with-fit, with-clean    its lines keep the rules 2, 3 and 4; its other rows are 0
 --   with-reads          its text reads
--- Assumes nothing.
 use Prim.Native.Nat.{ℕ, _*_, _^_, _<_, _≤_}
 use mathlib.Core.Path.{_≡_, refl, sym, ap, ap₂, _∙_, subst₂}
 use mathlib.Core.Bool.{true}
@@ -12,7 +11,8 @@ use mathlib.Core.List.{List}
 use lib.Dec.{ltb, leb}
 use lib.ListN.{length, getD}
 use borrow.Author.Tests.{lt-ltb, le-leb}
-use Rattle.theory.specs.Clock.{Regs, SameRegs}
+use Rattle.theory.specs.Clock.{Regs}
+use Rattle.theory.specs.inner.Registers.{SameRegs}
 use Rattle.theory.specs.Gate.{gate}
 use Rattle.theory.specs.Retimer.{Sound}
 use Rattle.netlist.specs.declared.Netlist.{Netlist}
@@ -28,7 +28,8 @@ use Rattle.netlist.proofs.Run.{fit-rows}
 use Rattle.netlist.proofs.theorems.Lines.{lines-fact}
 use Rattle.netlist.proofs.theorems.Refusals.{none-fact}
 use Rattle.netlist.proofs.theorems.Sound.{reads-value}
-use Rattle.moves.specs.Moved.{wordOf, withRegs, Filled, none, withColumns}
+use Rattle.moves.specs.Moved.{wordOf, withRegs}
+use Rattle.moves.specs.inner.Columns.{Filled, none, withColumns}
 use Rattle.moves.proofs.Words.{sum-same, word-fits, word-bit}
 use Rattle.moves.proofs.Rows.{column-length, column-in, column-past, column-is, column-same}
 use Rattle.moves.proofs.Lags.{registers-alike}

@@ -3,7 +3,6 @@
 --   rows-length, rows-in, rows-at    how many there are; the i-th, whatever stands past them
 --   rows-more           one more row put in
 --   column-length, column-in, column-past, column-is, column-same    so of a column, which is 0 past its n-th row
--- Assumes nothing.
 use Prim.Native.Nat.{ℕ, zero, suc, _+_, _-_, _<_, _≤_}
 use native.Mathlib.Omega.{arith}
 use native.Mathlib.Decide.{ℕ-discrete, decLt}

@@ -2,7 +2,6 @@
 --   sum-same            a sum depends on what is summed
 --   word-fits           a word of so many bits has no bit at or above them
 --   word-bit            bit k of the word is start value k
--- Assumes nothing.
 use Prim.Native.Nat.{ℕ, zero, suc, _+_, _*_, _^_, _/_, _%_, _-_, _<_, _≤_}
 use native.Mathlib.Omega.{arith}
 use native.Mathlib.Nat.{pow-suc, mul-assoc, add-comm, add-mul-div-right, add-mul-mod-self-right, mod-eq-of-lt}

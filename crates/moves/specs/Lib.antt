@@ -1,5 +1,4 @@
 -- The moved netlist.
 pub mod Moved
--- Inside: labels and the new counts by them; what is known once neither 9 nor 10 is said.
-pub mod Labels
-pub mod Moving
+-- What functions promise each other.
+pub mod inner

@@ -1,10 +1,7 @@
 -- The moved netlist: "Moved by lags and a choice, a netlist keeps its head, its nodes and the ends of its edges, and each edge gets its new count and new start values."
 --   column, wordOf      a column of 1,024 rows; start values as a word
 --   withRegs            the netlist with other registers
---   withColumns         the netlist with other columns of counts and words
 --   movedNet            the netlist moved by lags and a choice
---   Filled, none        the first n rows of a column are f's, the others as they were; 0 in every row
--- Assumes nothing.
 use mathlib.Core.Path.{_≡_}
 use mathlib.Core.List.{List, [], _∷_, _++_}
 use Prim.Native.Nat.{ℕ, _*_, _-_, _^_, _<_, _≤_}
@@ -44,24 +41,3 @@ withRegs net R = record {
 -- The netlist moved by the lags r and the choice that is the number c.
 unfoldable pub movedNet : Netlist → (ℕ → ℤ) → ℕ → Netlist
 movedNet net r c = withRegs net (retimed gate (graphOf net) (regsOf net) r c)
-
-abbrev pub withColumns : Netlist → List ℕ → List ℕ → Netlist
-withColumns net counts words = record {
-  period = net .period;
-  derate = net .derate;
-  nodes = net .nodes;
-  edges = net .edges;
-  kind = net .kind;
-  delay = net .delay;
-  from = net .from;
-  to = net .to;
-  count = counts;
-  start = words;
-}
-
-pub record Filled (f rest : ℕ → ℕ) (n : ℕ) (xs : List ℕ) : Type 0 where
-  pub rows : (e : ℕ) → e < n → at xs e ≡ f e
-  pub past : (e : ℕ) → n ≤ e → at xs e ≡ rest e
-
-abbrev pub none : ℕ → ℕ
-none e = 0

@@ -6,9 +6,9 @@ ghost use Prim.Native.Nat.{ℕ, _+_, _≤_, _<_, min};
 ghost use lib.ListN.{length};
 ghost use Rattle.theory.specs.Lag.{up};
 ghost use Rattle.graph.specs.Columns.{at};
-ghost use Rattle.lags.specs.Lags.{lagOf};
-ghost use Rattle.moves.specs.Labels.{Labelled, Counts, Wide, Bases};
-ghost use Rattle.moves.specs.Moved.{Filled, none};
+ghost use Rattle.lags.specs.inner.Lags.{lagOf};
+ghost use Rattle.moves.specs.inner.Labels.{Labelled, Counts, Wide, Bases};
+ghost use Rattle.moves.specs.inner.Columns.{Filled, none};
 
 // A label is 16,384 and the lag.
 const BIAS: u32 = 16384;

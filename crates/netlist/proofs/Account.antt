@@ -6,7 +6,6 @@
 --   node-.., edge-..    what one more row changes, and what it keeps
 --   turn                one line
 --   account             every text has an account
--- Assumes nothing.
 use Prim.Native.Nat.{ℕ, zero, suc, _+_, _<_, _≤_}
 use native.Mathlib.Omega.{arith}
 use mathlib.Core.Path.{_≡_, refl, sym, ap, _∙_, subst}
@@ -18,10 +17,10 @@ use lib.Seq.{getD-set-same, getD-set-other}
 use Rattle.frame.specs.Frame.{Line, bad, line, onLine, frameAt, numberAt, lineOf}
 use Rattle.frame.proofs.Laws.{frame-rest}
 use Rattle.netlist.specs.declared.Netlist.{Netlist}
-use Rattle.netlist.specs.Answer.{line as at-line}
+use Rattle.netlist.specs.Answer.{atLine as at-line}
 use Rattle.netlist.specs.Net.{withHead, withNode, withEdge, graphOf}
 use Rattle.rules.specs.Rules.{nodeFits, edgeFits}
-use Rattle.netlist.specs.Read.{Lines, fault, lines, ends, linesOf, nodesFrom, edgesFrom}
+use Rattle.netlist.specs.Read.{Lines, fault, lines, nothingMore, linesOf, nodesFrom, edgesFrom}
 use Rattle.netlist.specs.Write.{nodeLine, edgeLine, joined, textOf}
 use Rattle.netlist.specs.Theorems.{FitTo, Fit, Clean, toNode, toEdge, FaultAt, head-frame, head-range, node-frame, node-rule, edge-frame, edge-rule, surplus}
 use Rattle.netlist.proofs.Rows.{below-more, length-zeros, zeros-at, set-past, joined-same}
@@ -169,7 +168,7 @@ read-line k n t before l bs bs′ rest p q h = h ∙ ap (λ x. before ++ x) (fra
 
 -- No edge is left.
 at-end : (t l : List ℕ) (net : Netlist) → Fit net → ClearTo net (net .nodes) (net .edges) → t ≡ toEdge net (net .edges) ++ l
-    → Account t (ends l (net .nodes + net .edges + 2) net)
+    → Account t (nothingMore l (net .nodes + net .edges + 2) net)
 unfolding textOf
 at-end t [] net f c p = right net f (record { kinds = c .kinds; ends = c .ends; node = c .node; edge = c .edge }) (p ∙ append-nil _)
 at-end t (x ∷ l) net f c p = wrong 1 (net .nodes + net .edges + 2) (surplus net (x ∷ l) f p (λ q. clash (cc)))
@@ -180,7 +179,7 @@ at-edges : (t : List ℕ) (m e : ℕ) (l : List ℕ) (net : Netlist) → m + e �
 unfolding edgesFrom
 at-edges t zero e l net q f c p =
     let d : e ≡ net .edges = omega arith in
-    subst (λ k. Account t (ends l (net .nodes + k + 2) net)) (sym d)
+    subst (λ k. Account t (nothingMore l (net .nodes + k + 2) net)) (sym d)
     (at-end t l net (subst (FitTo net (net .nodes)) d f) (subst (ClearTo net (net .nodes)) d c) (p ∙ ap (λ k. toEdge net k ++ l) d))
 at-edges t (suc m) e l net q f c p =
     turn t l 3 9 4 (net .nodes + e + 2) _ _ (λ a. edge-frame net e l f (omega arith) p a) (λ bs rest a b. edge-rule net e l bs rest f (omega arith) p a b)

@@ -4,7 +4,6 @@
 --   walk-alike          every walk of the one is one of the other
 --   fan-alike, loop-alike, joined-alike
 --   judged-same         so what is said of a netlist is said of one that is the same
--- Assumes nothing.
 use Prim.Native.Nat.{ℕ, zero, suc, _+_, _<_, _≤_}
 use native.Mathlib.Omega.{arith}
 use mathlib.Core.Path.{_≡_, refl, sym, ap, ap₂, _∙_, subst, subst₂}
@@ -12,14 +11,14 @@ use mathlib.Core.List.{_++_}
 use lib.Dec.{eqb}
 use lib.ListN.{length}
 use Rattle.theory.specs.Graph.{Graph, Wired}
-use Rattle.theory.specs.Walk.{Walk, one, more, registers, steps, Loop}
+use Rattle.theory.specs.Walk.{Walk, one, more, registers, walkSteps, Loop}
 use Rattle.theory.specs.Clock.{gather, only}
 use Rattle.theory.proofs.walks.Walks.{walk-start, walk-end}
 use Rattle.graph.specs.Columns.{fan-in}
 use Rattle.netlist.specs.declared.Netlist.{Netlist}
-use Rattle.netlist.specs.Answer.{Says}
+use Rattle.netlist.specs.Answer.{Said}
 use Rattle.netlist.specs.Net.{graphOf, regsOf}
-use Rattle.netlist.specs.Read.{FanIn, Joined, All, Lowest, Judged, five, six, seven, sound}
+use Rattle.netlist.specs.Read.{FanInFits, InReach, All, Lowest, Judged, five, six, seven, sound}
 use Rattle.netlist.specs.Theorems.{Same}
 use Rattle.rules.specs.Rules.{ruleOf}
 
@@ -33,7 +32,7 @@ pub record Alike (G G′ : Graph) (c c′ : ℕ → ℕ) : Type 0 where
 
 -- A walk from u to v with so many registers and so many edges.
 abbrev Copy : Graph → (ℕ → ℕ) → ℕ → ℕ → ℕ → ℕ → Type 0
-Copy G c k n u v = (p : Walk G u v) × (registers c p ≡ k) × (steps p ≡ n)
+Copy G c k n u v = (p : Walk G u v) × (registers c p ≡ k) × (walkSteps p ≡ n)
 
 gather-alike : (dst dst′ f : ℕ → ℕ) (v n : ℕ) → ((e : ℕ) → e < n → dst e ≡ dst′ e) → gather dst f v n ≡ gather dst′ f v n
 unfolding gather
@@ -54,24 +53,24 @@ module _ {G G′ : Graph} {c c′ : ℕ → ℕ} (a : Alike G G′ c c′) where
         count = λ e h. sym (a .count e (omega arith));
       }
 
-  walk-alike : {u v : ℕ} (p : Walk G u v) → Copy G′ c′ (registers c p) (steps p) u v
-  unfolding registers steps
+  walk-alike : {u v : ℕ} (p : Walk G u v) → Copy G′ c′ (registers c p) (walkSteps p) u v
+  unfolding registers walkSteps
   walk-alike {u} (one h) = (one (omega (arith, a .nodes)), refl, refl)
   walk-alike {u} (more e h p) =
       let k = registers c p in
-      let n = steps p in
+      let n = walkSteps p in
       let q = subst (Copy G′ c′ k n u) (a .src e h) (walk-alike p) in
       subst (Copy G′ c′ (k + c e) (suc n) u) (sym (a .dst e h)) (more e (omega (arith, a .edges)) (q .0), ap₂ _+_ (q .1) (sym (a .count e h)), ap suc (q .2))
 
   loop-alike : Loop G c → Loop G′ c′
   loop-alike l = let q = walk-alike (l .walk) in record { node = l .node; walk = q .0; moves = omega (arith, q .2, l .moves); bare = q .1 ∙ l .bare }
 
-  fan-alike : (v : ℕ) → v < G .nodes → FanIn G v → FanIn G′ v
+  fan-alike : (v : ℕ) → v < G .nodes → FanInFits G v → FanInFits G′ v
   fan-alike v h f =
       let n : fan-in G v ≡ fan-in G′ v = ap length (gather-alike (G .dst) (G′ .dst) (λ e. e) v (G .edges) (a .dst) ∙ ap (gather (G′ .dst) (λ e. e) v) (a .edges)) in
       subst₂ (λ k n. (ruleOf k .fewest ≤ n) × (n ≤ ruleOf k .most)) (a .kind v h) n f
 
-  joined-alike : Wired G → (v : ℕ) → Joined G v → Joined G′ v
+  joined-alike : Wired G → (v : ℕ) → InReach G v → InReach G′ v
   joined-alike w v j =
       let f = j .0 in
       let t = j .1 in (
@@ -98,7 +97,7 @@ lowest-same {v = v} e f g l = let h = l .there in record {
   before = λ u k. f u (omega arith) (l .before u k);
 }
 
-pub judged-same : {net net′ : Netlist} {s : Says} → Wired (graphOf net) → Same net net′ → Judged net s → Judged net′ s
+pub judged-same : {net net′ : Netlist} {s : Said} → Wired (graphOf net) → Same net net′ → Judged net s → Judged net′ s
 judged-same {net} {net′} {s} w q = go
   where
     a : Alike (graphOf net) (graphOf net′) (regsOf net .count) (regsOf net′ .count)
@@ -114,19 +113,19 @@ judged-same {net} {net′} {s} w q = go
     n : net .nodes ≡ net′ .nodes
     n = q .head .2
 
-    fan : (v : ℕ) → v < net .nodes → FanIn (graphOf net) v → FanIn (graphOf net′) v
+    fan : (v : ℕ) → v < net .nodes → FanInFits (graphOf net) v → FanInFits (graphOf net′) v
     fan = fan-alike a
 
-    fan-back : (v : ℕ) → v < net .nodes → FanIn (graphOf net′) v → FanIn (graphOf net) v
+    fan-back : (v : ℕ) → v < net .nodes → FanInFits (graphOf net′) v → FanInFits (graphOf net) v
     fan-back v h = fan-alike (back a) v (subst (λ m. v < m) n h)
 
     no-loop : ¬ Loop (graphOf net) (regsOf net .count) → ¬ Loop (graphOf net′) (regsOf net′ .count)
     no-loop o l = o (loop-alike (back a) l)
 
-    joins : (v : ℕ) → v < net .nodes → Joined (graphOf net) v → Joined (graphOf net′) v
+    joins : (v : ℕ) → v < net .nodes → InReach (graphOf net) v → InReach (graphOf net′) v
     joins v h = joined-alike a w v
 
-    joins-back : (v : ℕ) → v < net .nodes → Joined (graphOf net′) v → Joined (graphOf net) v
+    joins-back : (v : ℕ) → v < net .nodes → InReach (graphOf net′) v → InReach (graphOf net) v
     joins-back v h = joined-alike (back a) (wired-alike a w) v
 
     go : Judged net s → Judged net′ s

@@ -5,7 +5,6 @@
 --   kept-refused, kept-done      what the record holds
 --   stands                       a refusal stands, and nothing is written
 --   writes-stop, writes-short, writes-done    the three ends of writing
--- Assumes nothing.
 use Prim.Native.Nat.{ℕ, _+_, _<_, _≤_}
 use mathlib.Core.Path.{_≡_, refl, ap, sym, _∙_}
 use mathlib.Core.List.{List}
@@ -19,11 +18,11 @@ use Rattle.netlist.specs.declared.Place.{Place}
 use Rattle.netlist.specs.declared.Place.the-variants.{Whole, Line, Node, Edge}
 use Rattle.netlist.specs.declared.Answer.{Answer}
 use Rattle.netlist.specs.declared.Answer.the-variants.{Done, Refused}
-use Rattle.netlist.specs.Answer.{Says, value, says, whole, andThen, needs, holds}
+use Rattle.netlist.specs.Answer.{Said, value, says, whole, andThen, needs, holds}
 use Rattle.netlist.specs.Net.{emptyNet, graphOf, regsOf}
-use Rattle.netlist.specs.Read.{FanIn, lines, linesOf, Joined, All, Judged, five, seven, sound, kept, Reads, faulty}
+use Rattle.netlist.specs.Read.{FanInFits, lines, linesOf, InReach, All, Judged, five, seven, sound, kept, Reads, faulty}
 use Rattle.netlist.specs.Write.{textOf, Writes}
-use Rattle.netlist.specs.Stages.{Lined, Sought, none, found}
+use Rattle.netlist.specs.inner.Stages.{Lined, Sought, none, found}
 use Rattle.netlist.specs.Theorems.{Fit}
 use Rattle.netlist.proofs.Fits.{clash}
 use Rattle.netlist.proofs.theorems.Lines.{lines-fact}
@@ -37,16 +36,16 @@ says-refused q (Edge m) n e = clash (cc)
 -- ── The rules of the whole ──────────────────────────────────────────────────────────────────
 
 module _ (net : Netlist) (a : Answer) where
-  pub five-stop : {q : ℕ} {p : Place} → a ≡ Refused q p → Sought (FanIn (graphOf net)) (net .nodes) 5 (says a) → Judged net (says a)
+  pub five-stop : {q : ℕ} {p : Place} → a ≡ Refused q p → Sought (FanInFits (graphOf net)) (net .nodes) 5 (says a) → Judged net (says a)
   five-stop {q} {p} e (none all z) = absurd (says-refused q p 0 (sym (ap says e) ∙ z))
   five-stop e (found v l z) = five v l z
 
-  pub five-all : {n : ℕ} → a ≡ Done n → Sought (FanIn (graphOf net)) (net .nodes) 5 (says a) → All (FanIn (graphOf net)) (net .nodes)
+  pub five-all : {n : ℕ} → a ≡ Done n → Sought (FanInFits (graphOf net)) (net .nodes) 5 (says a) → All (FanInFits (graphOf net)) (net .nodes)
   five-all e (none all z) = all
   five-all e (found v l z) = let y = sym (ap says e) ∙ z in clash (cc)
 
-pub whole-end : (net : Netlist) (s : Says) → All (FanIn (graphOf net)) (net .nodes) → ¬ Loop (graphOf net) (regsOf net .count)
-    → Sought (Joined (graphOf net)) (net .nodes) 7 s → Judged net s
+pub whole-end : (net : Netlist) (s : Said) → All (FanInFits (graphOf net)) (net .nodes) → ¬ Loop (graphOf net) (regsOf net .count)
+    → Sought (InReach (graphOf net)) (net .nodes) 7 s → Judged net s
 whole-end net s f l (none all z) = sound f l all z
 whole-end net s f l (found v m z) = seven f l v m z
 
@@ -77,7 +76,7 @@ kept-done (Refused q p) net e = clash (cc)
 -- ── Writing ─────────────────────────────────────────────────────────────────────────────────
 
 -- A refusal stands, and nothing is written.
-pub stands : (a : Answer) {q : ℕ} {p : Place} → a ≡ Refused q p → (s : Says) (new old : List ℕ) → (says a ≡ andThen (says a) s) × (old ≡ holds (says a) new old)
+pub stands : (a : Answer) {q : ℕ} {p : Place} → a ≡ Refused q p → (s : Said) (new old : List ℕ) → (says a ≡ andThen (says a) s) × (old ≡ holds (says a) new old)
 stands (Done n) e s new old = clash (cc)
 stands (Refused q Whole) e s new old = (refl, refl)
 stands (Refused q (Line k)) e s new old = (refl, refl)

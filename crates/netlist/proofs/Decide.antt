@@ -3,7 +3,6 @@
 --   listed              arrival times in a list
 --   loop?, from?        from arrival times: a loop without a register, a walk from a pin
 --   judge               what the rules 5, 6 and 7 say
--- Assumes nothing.
 use Prim.Native.Nat.{ℕ, _<_}
 use native.Mathlib.Omega.{arith}
 use native.Mathlib.Decide.{decLe, decLt}
@@ -15,17 +14,18 @@ use Rattle.theory.specs.Graph.{Graph, Wired}
 use Rattle.theory.specs.Walk.{Loop}
 use Rattle.theory.proofs.numbers.Find.{any, first}
 use Rattle.theory.proofs.walks.Walks.{walk-end}
-use Rattle.theory.proofs.labels.Arrival.{Reached, Arrival}
+use Rattle.theory.specs.inner.Arrival.{Reached, Arrival}
 use Rattle.theory.proofs.least.Times.{arrival-times}
-use Rattle.graph.specs.Columns.{at, reverse, fan-in, From, Told}
-use Rattle.graph.specs.Marks.{markOf}
+use Rattle.graph.specs.Columns.{at, fan-in}
+use Rattle.graph.specs.inner.Laid.{reverse, From, Told}
+use Rattle.graph.specs.inner.Marks.{markOf}
 use Rattle.graph.proofs.Answers.{loop-told, from-told}
 use Rattle.graph.proofs.Laws.{from-input, input-from, to-output, output-from}
 use Rattle.netlist.specs.declared.Netlist.{Netlist}
-use Rattle.netlist.specs.Answer.{Says, value, whole, node}
+use Rattle.netlist.specs.Answer.{Said, value, whole, atNode}
 use Rattle.netlist.specs.Net.{graphOf, regsOf}
 use Rattle.rules.specs.Rules.{ruleOf}
-use Rattle.netlist.specs.Read.{FanIn, Joined, All, Lowest, Judged, five, six, seven, sound}
+use Rattle.netlist.specs.Read.{FanInFits, InReach, All, Lowest, Judged, five, six, seven, sound}
 use Rattle.netlist.proofs.Rows.{column, column-in}
 
 -- ── Decisions ───────────────────────────────────────────────────────────────────────────────
@@ -92,23 +92,23 @@ module _ {G : Graph} (w : Wired G) where
       let time = column (G .nodes) (a .0) (G .nodes) in
       told? (eqb (at time v) 1) (from-told w none delay none pin (λ e l. refl) (λ u l. refl) (λ u l. refl) time (listed none delay 0 none (a .0) (a .1)) v h)
 
-joined? : {G : Graph} → Wired G → (v : ℕ) → v < G .nodes → Dec (Joined G v)
+joined? : {G : Graph} → Wired G → (v : ℕ) → v < G .nodes → Dec (InReach G v)
 joined? {G} w v h =
     let turned : Wired (reverse G) = record { src-in = w .dst-in; dst-in = w .src-in } in
     both? (same? from-input input-from (from? w 0 v h)) (same? (to-output w) (output-from w) (from? turned 1 v h))
 
-fan-in? : (G : Graph) (v : ℕ) → v < G .nodes → Dec (FanIn G v)
+fan-in? : (G : Graph) (v : ℕ) → v < G .nodes → Dec (FanInFits G v)
 fan-in? G v h = both? (decLe (ruleOf (G .kind v) .fewest) (fan-in G v)) (decLe (fan-in G v) (ruleOf (G .kind v) .most))
 
 -- ── The whole ───────────────────────────────────────────────────────────────────────────────
 
 -- In order: the lowest node that breaks rule 5, or a loop, or the lowest that breaks rule 7, or nothing.
-pub judge : (net : Netlist) → Wired (graphOf net) → (s : Says) × Judged net s
-judge net w = ⊎-elim (λ r. (node 5 (r .0), five (r .0) (r .1) refl)) by-loop (lowest (net .nodes) (fan-in? (graphOf net)))
+pub judge : (net : Netlist) → Wired (graphOf net) → (s : Said) × Judged net s
+judge net w = ⊎-elim (λ r. (atNode 5 (r .0), five (r .0) (r .1) refl)) by-loop (lowest (net .nodes) (fan-in? (graphOf net)))
   where
-    by-loop : All (FanIn (graphOf net)) (net .nodes) → (s : Says) × Judged net s
+    by-loop : All (FanInFits (graphOf net)) (net .nodes) → (s : Said) × Judged net s
     by-loop a = go (loop? w (regsOf net .count))
       where
-        go : Dec (Loop (graphOf net) (regsOf net .count)) → (s : Says) × Judged net s
+        go : Dec (Loop (graphOf net) (regsOf net .count)) → (s : Said) × Judged net s
         go (yes l) = (whole 6, six a l refl)
-        go (no l) = ⊎-elim (λ r. (node 7 (r .0), seven a l (r .0) (r .1) refl)) (λ j. (value 0, sound a l j refl)) (lowest (net .nodes) (joined? w))
+        go (no l) = ⊎-elim (λ r. (atNode 7 (r .0), seven a l (r .0) (r .1) refl)) (λ j. (value 0, sound a l j refl)) (lowest (net .nodes) (joined? w))

@@ -4,7 +4,6 @@
 --   four-numbers, node-numbers      the numbers taken from the bytes of numbers are those numbers
 --   four-bytes, node-bytes          bytes are those of the numbers taken from them
 --   four-frame, node-frame          a line of such bytes is read
--- Assumes nothing.
 use Prim.Native.Nat.{ℕ, _+_, _^_, _<_, _≤_}
 use native.Mathlib.Omega.{arith}
 use mathlib.Core.Path.{_≡_, refl, sym, ap, ap₂, _∙_}

@@ -4,7 +4,6 @@
 --   head-fits, node-fits, edge-fits    the ranges that a line's numbers keep
 --   edge-fits-same      an edge's rules look at the kinds of nodes only
 --   headTest, nodeTest, edgeTest       the tests of a record's own numbers
--- Assumes nothing.
 use Prim.Native.Nat.{ℕ, _^_, _<_, _≤_}
 use native.Mathlib.Omega.{arith}
 use mathlib.Core.Path.{_≡_, refl}

@@ -5,7 +5,6 @@
 --   joined-yes, unfed, unused    the tests of rule 7
 --   told-yes, told-no   what an answer says
 --   sought-lowest       a search that stops at the first node that breaks the rule
--- Assumes nothing.
 use Prim.Native.Nat.{ℕ, _≤_, _<_}
 use mathlib.Core.Path.{_≡_, refl, sym, subst}
 use mathlib.Core.Bool.{Bool, true, false}
@@ -15,13 +14,14 @@ use lib.Dec.{eqb}
 use lib.ListN.{length}
 use Rattle.frame.specs.Frame.{within}
 use Rattle.theory.specs.Graph.{Graph, Wired}
-use Rattle.graph.specs.Columns.{fan-in, reverse, From, Told, Laid}
+use Rattle.graph.specs.Columns.{fan-in}
+use Rattle.graph.specs.inner.Laid.{reverse, From, Told, Laid}
 use Rattle.graph.proofs.Laws.{from-input, input-from, to-output, output-from}
 use Rattle.netlist.specs.declared.Netlist.{Netlist}
-use Rattle.netlist.specs.Answer.{node}
+use Rattle.netlist.specs.Answer.{atNode}
 use Rattle.rules.specs.Rules.{ruleOf}
-use Rattle.netlist.specs.Read.{FanIn, Joined, All}
-use Rattle.netlist.specs.Stages.{Sought, found}
+use Rattle.netlist.specs.Read.{FanInFits, InReach, All}
+use Rattle.netlist.specs.inner.Stages.{Sought, found}
 use Rattle.netlist.specs.Theorems.{Fit}
 use Rattle.netlist.proofs.Fits.{clash, within-true, head-fits}
 use Rattle.netlist.proofs.Run.{fit-wired}
@@ -51,7 +51,7 @@ module _ {P : Type 0} (b : Bool) where
 
 -- ── Rule 5 ──────────────────────────────────────────────────────────────────────────────────
 
-pub fan-test : (G : Graph) (v x : ℕ) (b : Bool) → x ≡ fan-in G v → b ≡ within (ruleOf (G .kind v) .fewest) (ruleOf (G .kind v) .most) x → Told b (FanIn G v)
+pub fan-test : (G : Graph) (v x : ℕ) (b : Bool) → x ≡ fan-in G v → b ≡ within (ruleOf (G .kind v) .fewest) (ruleOf (G .kind v) .most) x → Told b (FanInFits G v)
 fan-test G v x true e t = rw e at (within-true (ruleOf (G .kind v) .fewest) (ruleOf (G .kind v) .most) x (sym t))
 fan-test G v x false e t = λ k.
     let low = le-leb (ruleOf (G .kind v) .fewest) x (rw e (k .0)) in
@@ -61,16 +61,16 @@ fan-test G v x false e t = λ k.
 -- ── Rule 7 ──────────────────────────────────────────────────────────────────────────────────
 
 module _ {G : Graph} (w : Wired G) (v fed used : ℕ) (f : Told (eqb fed 1) (From G 0 v)) (u : Told (eqb used 1) (From (reverse G) 1 v)) where
-  pub joined-yes : fed ≡ 1 → used ≡ 1 → Joined G v
+  pub joined-yes : fed ≡ 1 → used ≡ 1 → InReach G v
   joined-yes p q = (from-input (told-yes (eqb fed 1) f (eq-eqb fed 1 p)), to-output w (told-yes (eqb used 1) u (eq-eqb used 1 q)))
 
-  pub unfed : ¬ (fed ≡ 1) → ¬ Joined G v
+  pub unfed : ¬ (fed ≡ 1) → ¬ InReach G v
   unfed n j = told-no (eqb fed 1) f (ne-eqb fed 1 n) (input-from (j .0))
 
-  pub unused : ¬ (used ≡ 1) → ¬ Joined G v
+  pub unused : ¬ (used ≡ 1) → ¬ InReach G v
   unused n j = told-no (eqb used 1) u (ne-eqb used 1 n) (output-from w (j .1))
 
 -- ── A search ────────────────────────────────────────────────────────────────────────────────
 
-pub sought-lowest : {Rule : ℕ → Type 0} {n q v : ℕ} → v < n → All Rule v → ¬ Rule v → Sought Rule n q (node q v)
+pub sought-lowest : {Rule : ℕ → Type 0} {n q v : ℕ} → v < n → All Rule v → ¬ Rule v → Sought Rule n q (atNode q v)
 sought-lowest {v = v} h a b = found v (record { there = h; breaks = b; before = a }) refl

@@ -1,7 +1,6 @@
 -- The numbers in a line's bytes, as code takes them out of an array.
 --   number-one, number-two, number-four    the number of so many bytes from the i-th on, by the bytes themselves
 --   front                                  what stands behind a line's bytes in an array does not bear on its numbers
--- Assumes nothing.
 use Prim.Native.Nat.{ℕ, suc, _+_, _*_, _≤_, _<_}
 use mathlib.Core.Path.{_≡_, ap, _∙_}
 use mathlib.Core.List.{List, _++_}

@@ -5,7 +5,6 @@
 --   set-in, set-past    the rows of a column after one more is set
 --   joined-same         the joined lines depend on the lines that are joined
 --   joined-split        a line and what stands before and after it
--- Assumes nothing.
 use Prim.Native.Nat.{ℕ, zero, suc, _<_, _≤_}
 use native.Mathlib.Omega.{arith}
 use native.Mathlib.Decide.{ℕ-discrete, decLt}

@@ -6,7 +6,6 @@
 --   fit-less                             fewer lines keep their rules too
 --   cut-fits                             an edge that keeps its rules keeps them in the record cut off
 --   run-nodes, run-edges                 the lines before a node's, and before an edge's
--- Assumes nothing.
 use Prim.Native.Nat.{ℕ, zero, suc, _+_, _^_, _<_, _≤_}
 use native.Mathlib.Omega.{arith}
 use native.Mathlib.Nat.{pow-le-pow-right, zero-lt-suc}

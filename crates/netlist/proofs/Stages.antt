@@ -4,7 +4,6 @@
 --   goes-fault, empty-sizes        a stage that stops at a fault
 --   goes-on, goes-stop, goes-done, goes-end    stages one after the other
 --   ends-surplus, ends-none        what stands behind the last line
--- Assumes nothing.
 use Prim.Native.Nat.{ℕ, suc, _+_, _-_, _*_, _≤_, _<_}
 use mathlib.Core.Path.{_≡_, ap, sym, _∙_, subst}
 use mathlib.Core.Bool.{true, false}
@@ -15,18 +14,18 @@ use lib.Seq.{drop-cons}
 use lib.ListN.{length, getD, drop, drop-of-length-le, replicate, length-append, length-replicate}
 use Rattle.frame.specs.declared.Frame.{Frame}
 use Rattle.frame.specs.Frame.{bad, line, frameAt, numberAt}
-use Rattle.frame.specs.Decoded.{framed}
+use Rattle.frame.specs.inner.Decoded.{framed}
 use Rattle.frame.proofs.Laws.{framed-bad, framed-line, frame-rest, frame-drop}
 use Rattle.netlist.specs.declared.Netlist.{Netlist}
 use Rattle.netlist.specs.declared.Answer.{Answer}
 use Rattle.netlist.specs.declared.Answer.the-variants.{Done, Refused}
 use Rattle.netlist.specs.declared.Place.{Place}
 use Rattle.netlist.specs.declared.Place.the-variants.{Line}
-use Rattle.netlist.specs.Answer.{line as at-line}
-use Rattle.netlist.specs.Stages.{Goes}
+use Rattle.netlist.specs.Answer.{atLine as at-line}
+use Rattle.netlist.specs.inner.Stages.{Goes}
 use Rattle.netlist.specs.Net.{emptyNet, withHead, withNode, withEdge, graphOf}
 use Rattle.rules.specs.Rules.{headFits, nodeFits, edgeFits}
-use Rattle.netlist.specs.Read.{Lines, fault, lines, ends, edgesFrom, nodesFrom, linesOf}
+use Rattle.netlist.specs.Read.{Lines, fault, lines, nothingMore, edgesFrom, nodesFrom, linesOf}
 use Rattle.netlist.proofs.Numbers.{number-one, number-two, number-four, front}
 
 -- The line of kind k with n more bytes at `at`, as code has decoded it into the bytes xs.
@@ -157,8 +156,8 @@ module _ (a : Answer) (whole rest : Lines) (net : Netlist) where
   goes-end e g = subst (λ b. Goes b whole rest net) (sym e) g
 
 module _ (t : List ℕ) (at n : ℕ) (net : Netlist) where
-  pub ends-surplus : at < length t → ends (drop at t) n net ≡ fault (at-line 1 n)
+  pub ends-surplus : at < length t → nothingMore (drop at t) n net ≡ fault (at-line 1 n)
   ends-surplus h = rw (drop-cons t at 0 h)
 
-  pub ends-none : length t ≤ at → ends (drop at t) n net ≡ lines net
+  pub ends-none : length t ≤ at → nothingMore (drop at t) n net ≡ lines net
   ends-none h = rw (drop-of-length-le t h)

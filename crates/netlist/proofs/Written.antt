@@ -7,7 +7,6 @@
 --   text-nodes, text-edges, text-room    or nothing: too many nodes, too many edges, too little room
 --   text-put            so that is what is written by a caller that has made sure of rows and room
 --   front-written       what is written stands at the front
--- Assumes nothing.
 use Prim.Native.Nat.{ℕ, zero, suc, _+_, _*_, _≤_, _<_}
 use mathlib.Core.Path.{_≡_, ap, sym, _∙_}
 use mathlib.Core.List.{List, [], _++_}
@@ -17,8 +16,7 @@ use native.Mathlib.Numerals.{add-one}
 use borrow.Author.Tests.{le-leb, lt-leb}
 use lib.ListN.{length, take, drop, length-append}
 use lib.Seq.{sets, sets-eq, length-sets, take-at}
-use Rattle.frame.specs.Frame.{bytesOf}
-use Rattle.frame.specs.Decoded.{placed}
+use Rattle.frame.specs.Frame.{bytesOf, placed}
 use Rattle.frame.proofs.Laws.{length-line, placed-room, sets-sets}
 use Rattle.netlist.specs.declared.Netlist.{Netlist}
 use Rattle.netlist.specs.Write.{headLine, nodeLine, edgeLine, joined, textOf, textIn}

@@ -5,5 +5,5 @@ pub mod Net
 pub mod Read
 pub mod Write
 pub mod Theorems
--- Between the stages of reading.
-pub mod Stages
+-- What functions promise each other.
+pub mod inner

@@ -1,13 +1,12 @@
 -- The netlist record: a row of each kind put in, and the circuit that it stands for.
 --   emptyNet, withHead, withNode, withEdge    the record as reading fills it
 --   graphOf, regsOf, delayOf                  the theory's graph and registers, and the working delays
--- Assumes nothing.
 use mathlib.Core.List.{List}
 use Prim.Native.Nat.{ℕ, _+_, _*_, _/_}
 use lib.ListN.{getD, set, replicate}
 use Rattle.theory.specs.Graph.{Graph}
 use Rattle.theory.specs.Clock.{Regs}
-use Rattle.graph.specs.Columns.{bit, graph}
+use Rattle.graph.specs.Columns.{bit, columnGraph}
 use Rattle.netlist.specs.declared.Netlist.{Netlist}
 
 -- Shut, so that no goal shows 512 rows.
@@ -61,7 +60,7 @@ withEdge net e u v w s = record {
 }
 
 abbrev pub graphOf : Netlist → Graph
-graphOf net = graph (net .nodes) (net .edges) (net .kind) (net .from) (net .to)
+graphOf net = columnGraph (net .nodes) (net .edges) (net .kind) (net .from) (net .to)
 
 -- "Bit k is the value that the entered node sees at clock k."
 abbrev pub regsOf : Netlist → Regs

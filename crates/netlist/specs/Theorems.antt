@@ -10,7 +10,6 @@
 --   ReadIsSound                            what reads is a sound circuit
 --   RoundTripText, RoundTripNetlist        demand 2
 --   RecordRowsUnread                       rows past the netlist's are read by nothing
--- Assumes nothing.
 use mathlib.Core.Path.{_≡_}
 use mathlib.Core.Bool.{true, false}
 use mathlib.Core.Logic.{_↔_}
@@ -22,27 +21,27 @@ use Rattle.theory.specs.Walk.{Loop}
 use Rattle.theory.specs.Gate.{gate}
 use Rattle.theory.specs.Retimer.{Sound}
 use Rattle.netlist.specs.declared.Netlist.{Netlist}
-use Rattle.netlist.specs.Answer.{Says, value, whole, node, line as at-line}
+use Rattle.netlist.specs.Answer.{Said, value, whole, atNode, atLine as at-line}
 use Rattle.netlist.specs.Net.{graphOf, regsOf}
 use Rattle.rules.specs.Rules.{headFits, nodeFits, edgeFits}
-use Rattle.netlist.specs.Read.{FanIn, fault, lines, linesOf, Joined, All, Lowest, Judged, Reads}
+use Rattle.netlist.specs.Read.{FanInFits, fault, lines, linesOf, InReach, All, Lowest, Judged, Reads}
 use Rattle.netlist.specs.Write.{headLine, nodeLine, edgeLine, joined, textOf, Writes}
 
 -- ── No answer is free ───────────────────────────────────────────────────────────────────────
 
 -- Every text has an outcome, and one only.
 abbrev pub SomeReading : Type 0
-SomeReading = (t : List ℕ) → (s : Says) × (net : Netlist) × Reads t s net
+SomeReading = (t : List ℕ) → (s : Said) × (net : Netlist) × Reads t s net
 
 abbrev pub OneReading : Type 0
-OneReading = (t : List ℕ) (s s′ : Says) (net net′ : Netlist) → Reads t s net → Reads t s′ net′ → (s ≡ s′) × (net ≡ net′)
+OneReading = (t : List ℕ) (s s′ : Said) (net net′ : Netlist) → Reads t s net → Reads t s′ net′ → (s ≡ s′) × (net ≡ net′)
 
 -- So has a record to be written, with what the buffer held.
 abbrev pub SomeWriting : Type 0
-SomeWriting = (net : Netlist) (old : List ℕ) → (s : Says) × (new : List ℕ) × Writes net old s new
+SomeWriting = (net : Netlist) (old : List ℕ) → (s : Said) × (new : List ℕ) × Writes net old s new
 
 abbrev pub OneWriting : Type 0
-OneWriting = (net : Netlist) (old : List ℕ) (s s′ : Says) (new new′ : List ℕ) → Writes net old s new → Writes net old s′ new′ → (s ≡ s′) × (new ≡ new′)
+OneWriting = (net : Netlist) (old : List ℕ) (s s′ : Said) (new new′ : List ℕ) → Writes net old s new → Writes net old s′ new′ → (s ≡ s′) × (new ≡ new′)
 
 -- ── Each number is given exactly when its fact holds and no earlier one does ────────────────
 
@@ -94,24 +93,24 @@ FaultFact = (t : List ℕ) (q n : ℕ) → (linesOf t ≡ fault (at-line q n)) �
 
 -- A fault of the lines is always at a line.
 abbrev pub FaultPlace : Type 0
-FaultPlace = (t : List ℕ) (s : Says) → linesOf t ≡ fault s → (q : ℕ) × (n : ℕ) × (s ≡ at-line q n) × FaultAt t q n
+FaultPlace = (t : List ℕ) (s : Said) → linesOf t ≡ fault s → (q : ℕ) × (n : ℕ) × (s ≡ at-line q n) × FaultAt t q n
 
 -- 5, 6, 7 and success, of a text whose lines have no fault.
-pub record WholeFacts (t : List ℕ) (s : Says) (net read : Netlist) (h : linesOf t ≡ lines read) (r : Reads t s net) : Type 0 where
-  pub five : (v : ℕ) → (s ≡ node 5 v) ↔ Lowest (FanIn (graphOf read)) (read .nodes) v
-  pub six : (s ≡ whole 6) ↔ (All (FanIn (graphOf read)) (read .nodes) × Loop (graphOf read) (regsOf read .count))
-  pub seven : (v : ℕ) → (s ≡ node 7 v)
-      ↔ (All (FanIn (graphOf read)) (read .nodes) × (¬ Loop (graphOf read) (regsOf read .count)) × Lowest (Joined (graphOf read)) (read .nodes) v)
+pub record WholeFacts (t : List ℕ) (s : Said) (net read : Netlist) (h : linesOf t ≡ lines read) (r : Reads t s net) : Type 0 where
+  pub five : (v : ℕ) → (s ≡ atNode 5 v) ↔ Lowest (FanInFits (graphOf read)) (read .nodes) v
+  pub six : (s ≡ whole 6) ↔ (All (FanInFits (graphOf read)) (read .nodes) × Loop (graphOf read) (regsOf read .count))
+  pub seven : (v : ℕ) → (s ≡ atNode 7 v)
+      ↔ (All (FanInFits (graphOf read)) (read .nodes) × (¬ Loop (graphOf read) (regsOf read .count)) × Lowest (InReach (graphOf read)) (read .nodes) v)
   pub none : (s ≡ value 0)
-      ↔ (All (FanIn (graphOf read)) (read .nodes) × (¬ Loop (graphOf read) (regsOf read .count)) × All (Joined (graphOf read)) (read .nodes))
+      ↔ (All (FanInFits (graphOf read)) (read .nodes) × (¬ Loop (graphOf read) (regsOf read .count)) × All (InReach (graphOf read)) (read .nodes))
 
 abbrev pub RefusalFacts : Type 0
-RefusalFacts = (t : List ℕ) (s : Says) (net read : Netlist) (h : linesOf t ≡ lines read) (r : Reads t s net) → WholeFacts t s net read h r
+RefusalFacts = (t : List ℕ) (s : Said) (net read : Netlist) (h : linesOf t ≡ lines read) (r : Reads t s net) → WholeFacts t s net read h r
 
 -- "a text of up to 32,768 bytes (more decides nothing)": the longest text that reads has 25,105 (a head of 17, 512 nodes of 7 each, 1,024 edges of 21 each).
 -- A longer one is refused by its first 25,106 bytes, and no line is looked at past them.
 abbrev pub MoreDecidesNothing : Type 0
-MoreDecidesNothing = (t : List ℕ) (n : ℕ) → 25105 < n → (s : Says) (net : Netlist) → Reads t s net ↔ Reads (take n t) s net
+MoreDecidesNothing = (t : List ℕ) (n : ℕ) → 25105 < n → (s : Said) (net : Netlist) → Reads t s net ↔ Reads (take n t) s net
 
 -- ── Records ─────────────────────────────────────────────────────────────────────────────────
 
@@ -149,14 +148,14 @@ RecordFaults = (net : Netlist) → Typed net → (q n : ℕ) → (linesOf (textO
 
 -- Of a record whose lines keep their rules, 5, 6, 7 or nothing is said as they hold of the record itself.
 abbrev pub RecordJudged : Type 0
-RecordJudged = (net : Netlist) → Fit net → (s : Says) (back : Netlist) → Reads (textOf net) s back → Judged net s
+RecordJudged = (net : Netlist) → Fit net → (s : Said) (back : Netlist) → Reads (textOf net) s back → Judged net s
 
 -- The record itself keeps the rules 2 to 7.
 pub record Keeps (net : Netlist) : Type 0 where
   pub lines : Fit net
-  pub fan-in : All (FanIn (graphOf net)) (net .nodes)
+  pub fan-in : All (FanInFits (graphOf net)) (net .nodes)
   pub no-loop : ¬ Loop (graphOf net) (regsOf net .count)
-  pub joined : All (Joined (graphOf net)) (net .nodes)
+  pub joined : All (InReach (graphOf net)) (net .nodes)
 
 -- "Where nothing is broken the job is done": a record is written exactly where it keeps the rules and there is room; then it is its text that is written.
 abbrev pub SoundWritten : Type 0
@@ -174,7 +173,7 @@ ReadIsSound = (t : List ℕ) (net : Netlist) → Reads t (value 0) net → Sound
 
 -- "Text read and written again is the same text."
 abbrev pub RoundTripText : Type 0
-RoundTripText = (t : List ℕ) (net : Netlist) (old : List ℕ) (s : Says) (new : List ℕ) → Reads t (value 0) net → length t ≤ length old
+RoundTripText = (t : List ℕ) (net : Netlist) (old : List ℕ) (s : Said) (new : List ℕ) → Reads t (value 0) net → length t ≤ length old
     → Writes net old s new → (s ≡ value (length t)) × (new ≡ t ++ drop (length t) old)
 
 -- "a sound netlist written and read again is the same netlist": it is sound where it keeps the rules, which is where it can be written (SoundWritten).
@@ -184,4 +183,4 @@ RoundTripNetlist = (net : Netlist) (old new : List ℕ) (n : ℕ) → Typed net 
 
 -- "record rows past them are read by nothing".
 abbrev pub RecordRowsUnread : Type 0
-RecordRowsUnread = (net net′ : Netlist) → Same net net′ → (old : List ℕ) (s : Says) (new : List ℕ) → Writes net old s new → Writes net′ old s new
+RecordRowsUnread = (net net′ : Netlist) → Same net net′ → (old : List ℕ) (s : Said) (new : List ℕ) → Writes net old s new → Writes net′ old s new

@@ -2,8 +2,8 @@
 // Private to the crate: `read` comes here once the lines are right.
 ghost use Rattle.netlist.specs.Answer.{says};
 ghost use Rattle.netlist.specs.Net.{graphOf};
-ghost use Rattle.netlist.specs.Read.{Joined, Judged, FanIn};
-ghost use Rattle.netlist.specs.Stages.{Sought};
+ghost use Rattle.netlist.specs.Read.{InReach, Judged, FanInFits};
+ghost use Rattle.netlist.specs.inner.Stages.{Sought};
 ghost use Rattle.netlist.specs.Theorems.{Fit};
 use crate::Answer;
 use crate::Netlist;
@@ -13,7 +13,7 @@ use rules::fan_fits;
 // Rule 5: the lowest node with a wrong number of in-edges.
 fn fan_fault(net: Netlist) -> Answer
     requires { ⌜ Fit net ⌝ }
-    ensures { λ r. ⌜ Sought (FanIn (graphOf net)) (net .nodes) 5 (says r) ⌝ }
+    ensures { λ r. ⌜ Sought (FanInFits (graphOf net)) (net .nodes) 5 (says r) ⌝ }
 {
     let nodes = net.nodes as usize;
     let ins = graph::fan_ins(&net.from, &net.to, nodes, net.edges as usize);
@@ -30,7 +30,7 @@ fn fan_fault(net: Netlist) -> Answer
 // Rule 7: the lowest node that no input reaches, or that reaches no output.
 fn reach_fault(net: Netlist) -> Answer
     requires { ⌜ Fit net ⌝ }
-    ensures { λ r. ⌜ Sought (Joined (graphOf net)) (net .nodes) 7 (says r) ⌝ }
+    ensures { λ r. ⌜ Sought (InReach (graphOf net)) (net .nodes) 7 (says r) ⌝ }
 {
     let nodes = net.nodes as usize;
     let edges = net.edges as usize;

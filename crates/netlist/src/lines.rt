@@ -3,9 +3,9 @@ ghost use mathlib.Core.Path.{_≡_};
 ghost use Prim.Native.Nat.{_+_, _*_, _≤_};
 ghost use lib.ListN.{drop};
 ghost use Rattle.netlist.specs.Answer.{says};
-ghost use Rattle.netlist.specs.Stages.{Goes, Lined};
+ghost use Rattle.netlist.specs.inner.Stages.{Goes, Lined};
 ghost use Rattle.netlist.specs.Net.{emptyNet, withHead};
-ghost use Rattle.netlist.specs.Read.{ends, edgesFrom, nodesFrom, linesOf, Reads};
+ghost use Rattle.netlist.specs.Read.{nothingMore, edgesFrom, nodesFrom, linesOf, Reads};
 use crate::Answer;
 use crate::Netlist;
 use crate::Place;
@@ -124,7 +124,7 @@ fn read_nodes(text: &[u8], at0: usize, net0: Netlist) -> Filled
 // The edge lines from the cursor `at0`, after as many node lines as the head says.
 fn read_edges(text: &[u8], at0: usize, net0: Netlist) -> Filled
     requires { ⌜ (net0 .nodes ≤ 512) × (net0 .edges ≤ 1024) ⌝ }
-    ensures { λ r. ⌜ Goes (r .answer) (edgesFrom (net0 .edges) 0 (2 + net0 .nodes) (drop at0 (now (text .entry))) net0) (ends (drop (r .at) (now (text .entry))) (2 + r .net .nodes + r .net .edges) (r .net)) (r .net) ⌝ }
+    ensures { λ r. ⌜ Goes (r .answer) (edgesFrom (net0 .edges) 0 (2 + net0 .nodes) (drop at0 (now (text .entry))) net0) (nothingMore (drop (r .at) (now (text .entry))) (2 + r .net .nodes + r .net .edges) (r .net)) (r .net) ⌝ }
     ensures { λ r. ⌜ (r .net .nodes ≤ 512) × (r .net .edges ≤ 1024) ⌝ }
 {
     let mut net = net0;

@@ -8,7 +8,6 @@
 --   retime-refused      9, 10, 11
 --   text-fits           else there is room for the new text
 --   retime-done         and the moved netlist comes back
--- Assumes nothing.
 use Prim.Native.Nat.{ℕ, _+_, _≤_}
 use native.Mathlib.Omega.{arith}
 use mathlib.Core.Path.{_≡_, refl, sym, ap, subst, _∙_}
@@ -21,7 +20,7 @@ use Rattle.netlist.specs.declared.Netlist.{Netlist}
 use Rattle.netlist.specs.declared.Place.{Place}
 use Rattle.netlist.specs.declared.Answer.{Answer}
 use Rattle.netlist.specs.declared.Answer.the-variants.{Done, Refused}
-use Rattle.netlist.specs.Answer.{Says, value, refused, says, whole, holds}
+use Rattle.netlist.specs.Answer.{Said, value, refused, says, whole, holds}
 use Rattle.netlist.specs.Read.{Reads}
 use Rattle.netlist.specs.Write.{textOf}
 use Rattle.netlist.proofs.Fits.{clash}
@@ -29,9 +28,9 @@ use Rattle.netlist.proofs.Run.{fit-rows}
 use Rattle.simulate.proofs.Answered.{says-refused, reads-done}
 use Rattle.simulate.proofs.Ran.{reads-zero}
 use Rattle.lags.specs.declared.Labels.{Labels}
-use Rattle.lags.specs.Lags.{Leasts}
+use Rattle.lags.specs.inner.Lags.{Leasts}
 use Rattle.lags.proofs.Laws.{read-sure}
-use Rattle.moves.specs.Labels.{lagsOf, Labelled}
+use Rattle.moves.specs.inner.Labels.{lagsOf, Labelled}
 use Rattle.moves.specs.Moved.{movedNet}
 use Rattle.retime.specs.Retime.{lagTable, Moves, wide, many, startless, moved, Room, Short, Untouched, Retimes, unread, twelve, eight, found}
 use Rattle.retime.specs.Demand.{Demand3}
@@ -40,10 +39,10 @@ use Rattle.retime.proofs.theorems.Moved.{same-length}
 use Rattle.retime.proofs.theorems.Demand.{demand-follows}
 
 module _ (t out : List ℕ) (lags : List ℤ) where
-  abbrev pub Promised : Says → List ℕ → List ℤ → Type 0
+  abbrev pub Promised : Said → List ℕ → List ℤ → Type 0
   Promised s out′ lags′ = Retimes t out lags s out′ lags′ × Demand3 t out lags s out′ lags′
 
-  promised : (s : Says) (out′ : List ℕ) (lags′ : List ℤ) → Retimes t out lags s out′ lags′ → Promised s out′ lags′
+  promised : (s : Said) (out′ : List ℕ) (lags′ : List ℤ) → Retimes t out lags s out′ lags′ → Promised s out′ lags′
   promised s out′ lags′ o = (o, demand-follows t out lags s out′ lags′ o)
 
   -- A refusal leaves all that was lent.

@@ -9,7 +9,6 @@
 --   one-stage           two facts that are the first to hold are one
 --   tell, told-at       from the first fact that holds to the end, and from what is said
 --   one-end             one end leaves one outcome
--- Assumes nothing.
 use Prim.Native.Nat.{ℕ, zero, suc, _-_, _<_}
 use native.Mathlib.Omega.{arith}
 use mathlib.Core.Path.{_≡_, refl, sym, ap, ap₂, _∙_, subst}
@@ -19,11 +18,12 @@ use lib.IntN.{ℤ}
 use lib.ListN.{getD}
 use Rattle.theory.specs.Gate.{gate}
 use Rattle.theory.specs.Move.{chosenIn, choiceOf}
-use Rattle.theory.specs.Retimer.{Sound, Answer}
+use Rattle.theory.specs.Retimer.{Sound}
+use Rattle.theory.specs.inner.Demand.{Solution}
 use Rattle.theory.proofs.moves.Best.{choice-bit, best-unique}
 use Rattle.theory.proofs.least.Exists.{least-unique}
 use Rattle.netlist.specs.declared.Netlist.{Netlist}
-use Rattle.netlist.specs.Answer.{Says, value, refused, whole, edge, holds}
+use Rattle.netlist.specs.Answer.{Said, value, refused, whole, atEdge, holds}
 use Rattle.netlist.specs.Net.{graphOf, regsOf, delayOf}
 use Rattle.netlist.specs.Read.{Reads}
 use Rattle.netlist.specs.Write.{textOf}
@@ -46,7 +46,7 @@ module _ (t out : List ℕ) (lags : List ℤ) (net : Netlist) where
   Fact (suc (suc zero)) = (r : ℕ → ℤ) × LeastLags net r × (e : ℕ) × WideAt net r e
   Fact (suc (suc (suc zero))) = (r : ℕ → ℤ) × LeastLags net r × NarrowAt net r × ManyAt net r
   Fact (suc (suc (suc (suc zero)))) = (r : ℕ → ℤ) × LeastLags net r × StartlessAt net r
-  Fact (suc (suc (suc (suc (suc n))))) = (r : ℕ → ℤ) × (c : ℕ) × Answer gate (graphOf net) (regsOf net) (delayOf net) (net .period) r c
+  Fact (suc (suc (suc (suc (suc n))))) = (r : ℕ → ℤ) × (c : ℕ) × Solution gate (graphOf net) (regsOf net) (delayOf net) (net .period) r c
 
   -- The i-th is the first that holds.
   pub record First (i : ℕ) : Type 0 where
@@ -60,15 +60,15 @@ module _ (t out : List ℕ) (lags : List ℤ) (net : Netlist) where
       omega arith
 
 -- The end that says s.
-abbrev pub stageOf : Says → ℕ
+abbrev pub stageOf : Said → ℕ
 stageOf (value n) = 5
 stageOf (refused q k p) = getD (1 ∷ 2 ∷ 3 ∷ 4 ∷ 0 ∷ []) (q - 8) 6
 
-module _ (t out : List ℕ) (lags : List ℤ) (s : Says) (out′ : List ℕ) (lags′ : List ℤ) (net : Netlist) where
+module _ (t out : List ℕ) (lags : List ℤ) (s : Said) (out′ : List ℕ) (lags′ : List ℤ) (net : Netlist) where
   abbrev pub End : ℕ → Type 0
   End zero = Untouched t out lags s out′ lags′ (whole 12)
   End (suc zero) = Untouched t out lags s out′ lags′ (whole 8)
-  End (suc (suc zero)) = (r : ℕ → ℤ) × LeastLags net r × (e : ℕ) × WideAt net r e × Untouched t out lags s out′ lags′ (edge 9 e)
+  End (suc (suc zero)) = (r : ℕ → ℤ) × LeastLags net r × (e : ℕ) × WideAt net r e × Untouched t out lags s out′ lags′ (atEdge 9 e)
   End (suc (suc (suc zero))) = Untouched t out lags s out′ lags′ (whole 10)
   End (suc (suc (suc (suc zero)))) = Untouched t out lags s out′ lags′ (whole 11)
   End (suc (suc (suc (suc (suc n))))) =
@@ -118,7 +118,7 @@ module _ (t out : List ℕ) (lags : List ℤ) (net : Netlist) (h : Reads t (valu
 
 -- ── Every outcome has its end ───────────────────────────────────────────────────────────────
 
-module _ {t out : List ℕ} {lags : List ℤ} {s : Says} {out′ : List ℕ} {lags′ : List ℤ} where
+module _ {t out : List ℕ} {lags : List ℤ} {s : Said} {out′ : List ℕ} {lags′ : List ℤ} where
   -- After a refusal both hold what they held.
   pub stays : {q k p : ℕ} (net : Netlist) (r : ℕ → ℤ) (new : Netlist) → s ≡ refused q k p → Left t out lags s out′ lags′ net r new → Untouched t out lags s out′ lags′ (refused q k p)
   stays net r new z x =
@@ -162,7 +162,7 @@ module _ {t out : List ℕ} {lags : List ℤ} {s : Says} {out′ : List ℕ} {la
       (λ (net′, h′, d). subst (Told t out lags s out′ lags′) (one-reading t (value 0) (value 0) net′ net h′ h .1) d)
       (told o)
 
-module _ (t out : List ℕ) (lags : List ℤ) (s : Says) (out′ : List ℕ) (lags′ : List ℤ) (net : Netlist) (d : Told t out lags s out′ lags′ net) where
+module _ (t out : List ℕ) (lags : List ℤ) (s : Said) (out′ : List ℕ) (lags′ : List ℤ) (net : Netlist) (d : Told t out lags s out′ lags′ net) where
   -- Where the i-th fact is the first to hold, the call has the i-th end; and what is said names its end.
   pub tell : (i : ℕ) → First t out lags net i → End t out lags s out′ lags′ net i
   tell i f = subst (End t out lags s out′ lags′ net) (one-stage t out lags net (d .stage) i (d .first) f) (d .end)
@@ -172,7 +172,7 @@ module _ (t out : List ℕ) (lags : List ℤ) (s : Says) (out′ : List ℕ) (la
 
 -- ── One end leaves one outcome ──────────────────────────────────────────────────────────────
 
-pub untouched-alike : {t out : List ℕ} {lags : List ℤ} {s s″ : Says} {out′ out″ : List ℕ} {lags′ lags″ : List ℤ} {x y : Says} → x ≡ y
+pub untouched-alike : {t out : List ℕ} {lags : List ℤ} {s s″ : Said} {out′ out″ : List ℕ} {lags′ lags″ : List ℤ} {x y : Said} → x ≡ y
     → Untouched t out lags s out′ lags′ x → Untouched t out lags s″ out″ lags″ y → (s ≡ s″) × (out′ ≡ out″) × (lags′ ≡ lags″)
 untouched-alike e u v = (u .answer ∙ e ∙ sym (v .answer), u .buffer ∙ sym (v .buffer), u .table ∙ sym (v .table))
 
@@ -184,7 +184,7 @@ lowest-one net ok r q l m e i w x =
     let more : ¬ (i < e) = λ h. omega (arith, w .lowest i h, same i (x .edge), x .wide) in
     omega arith
 
-module _ (net : Netlist) (ok : Sound gate (graphOf net) (regsOf net)) (t out : List ℕ) (lags : List ℤ) (s s″ : Says) (out′ out″ : List ℕ) (lags′ lags″ : List ℤ) where
+module _ (net : Netlist) (ok : Sound gate (graphOf net) (regsOf net)) (t out : List ℕ) (lags : List ℤ) (s s″ : Said) (out′ out″ : List ℕ) (lags′ lags″ : List ℤ) where
   -- The least lags are one at each node, so the smallest number is one, and the netlist moved by them.
   moved-one : End t out lags s out′ lags′ net 5 → End t out lags s″ out″ lags″ net 5 → (s ≡ s″) × (out′ ≡ out″) × (lags′ ≡ lags″)
   moved-one (r, l, _, c, b, z, w) (q, m, _, d, o, y, x) =
@@ -200,7 +200,7 @@ module _ (net : Netlist) (ok : Sound gate (graphOf net) (regsOf net)) (t out : L
   pub one-end : (i : ℕ) → End t out lags s out′ lags′ net i → End t out lags s″ out″ lags″ net i → (s ≡ s″) × (out′ ≡ out″) × (lags′ ≡ lags″)
   one-end zero u v = untouched-alike refl u v
   one-end (suc zero) u v = untouched-alike refl u v
-  one-end (suc (suc zero)) (r, l, e, w, u) (q, m, i, x, v) = untouched-alike (ap (edge 9) (lowest-one net ok r q l m e i w x)) u v
+  one-end (suc (suc zero)) (r, l, e, w, u) (q, m, i, x, v) = untouched-alike (ap (atEdge 9) (lowest-one net ok r q l m e i w x)) u v
   one-end (suc (suc (suc zero))) u v = untouched-alike refl u v
   one-end (suc (suc (suc (suc zero)))) u v = untouched-alike refl u v
   one-end (suc (suc (suc (suc (suc n))))) u v = moved-one u v

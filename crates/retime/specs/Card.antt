@@ -4,7 +4,6 @@
 --   Claim               that it does come of it, by the definitions, in all buffers that are long enough
 --   cards               the cards
 --   CardsHold, DemandAsks    what is to be proved of them
--- Assumes nothing.
 use mathlib.Core.Path.{_≡_}
 use mathlib.Core.List.{List, [], _∷_, _++_}
 use Prim.Native.Nat.{ℕ, _<_, _≤_}
@@ -13,7 +12,7 @@ use Prim.Native.String.{String, [] as end, _∷_ as _then_}
 use lib.IntN.{ℤ, pos, negsuc}
 use lib.ListN.{length, getD, take, drop}
 use Rattle.netlist.specs.declared.Netlist.{Netlist}
-use Rattle.netlist.specs.Answer.{Says, value, whole, edge}
+use Rattle.netlist.specs.Answer.{Said, value, whole, atEdge}
 use Rattle.netlist.specs.Read.{Reads}
 use Rattle.simulate.specs.Run.{Runs}
 use Rattle.retime.specs.Retime.{Room, Retimes}
@@ -32,7 +31,7 @@ pub data Result : Type 0 where
   -- retiming gives the new text, each node's lag, and says how many values were chosen
   back : List ℕ → List ℤ → ℕ → Result
   -- retiming is refused
-  refuses : Says → Result
+  refuses : Said → Result
   -- running these vectors puts these bytes out
   runs : (vectors outputs : List ℕ) → Result
 
@@ -166,7 +165,7 @@ J = record {
       "0100056400030002" ∷ "020000" ∷ "020201" ∷ "020100" ∷
       "03000000011400000000" ∷ "03000100021400000000" ∷ []
       );
-  result = refuses (edge 9 1);
+  result = refuses (atEdge 9 1);
 }
 
 abbrev pub cards : List Card
@@ -180,5 +179,5 @@ CardsHold = (k : ℕ) → k < length cards → Claim (getD cards k A)
 abbrev pub DemandAsks : Type 0
 DemandAsks = (out : List ℕ) (lags : List ℤ) → length (A .text) ≤ length out → 4 ≤ length lags
     → (net : Netlist) × Asked (A .text) out lags net
-    × ((s : Says) (out′ : List ℕ) (lags′ : List ℤ) → Retimes (A .text) out lags s out′ lags′
+    × ((s : Said) (out′ : List ℕ) (lags′ : List ℤ) → Retimes (A .text) out lags s out′ lags′
     → ComesBack s × Came (A .text) net (take (length (A .text)) out′) (tableLag lags′))

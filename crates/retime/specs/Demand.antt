@@ -5,7 +5,6 @@
 --   tableLag lags       the lags that the table gives
 --   Came                what is owed of what came back
 --   Demand3             the demand
--- Assumes nothing.
 use mathlib.Core.Path.{_≡_}
 use mathlib.Core.Logic.{_↔_}
 use mathlib.Core.List.{List}
@@ -17,7 +16,7 @@ use Rattle.theory.specs.Gate.{gate}
 use Rattle.theory.specs.Move.{Moved, Carries, choiceOf}
 use Rattle.theory.specs.Retimer.{Possible}
 use Rattle.netlist.specs.declared.Netlist.{Netlist}
-use Rattle.netlist.specs.Answer.{Says, value}
+use Rattle.netlist.specs.Answer.{Said, value}
 use Rattle.netlist.specs.Net.{graphOf, regsOf, delayOf}
 use Rattle.netlist.specs.Read.{Reads}
 use Rattle.netlist.specs.Write.{textOf}
@@ -37,7 +36,7 @@ pub record Asked (t out : List ℕ) (lags : List ℤ) (net : Netlist) : Type 0 w
   pub few : (r : ℕ → ℤ) → LeastLags net r → NarrowAt net r × ¬ ManyAt net r
 
 -- "a retimed netlist comes back when retiming isn't refused."
-abbrev pub ComesBack : Says → Type 0
+abbrev pub ComesBack : Said → Type 0
 ComesBack s = (k : ℕ) × (s ≡ value k)
 
 abbrev pub tableLag : List ℤ → ℕ → ℤ
@@ -59,9 +58,9 @@ pub record Came (t : List ℕ) (net : Netlist) (new : List ℕ) (r : ℕ → ℤ
   pub carries : (ins y : ℕ → ℕ → ℕ) → Trace gate (graphOf net) (regsOf (movedNet net r number)) ins y → Carries (graphOf net) (regsOf net) r y
   -- "For every list of input vectors, refused lists included, running the original and running the retimed netlist … give the same answer and the same outputs at every clock."
   -- "The original text and the new text are run on the same vector bytes, into buffers of equal length and content." (Every run has an outcome, and one only: simulate's `SomeRun`, `OneRun`.)
-  pub same-runs : (vectors buffer : List ℕ) (s : Says) (after : List ℕ) → Runs t vectors buffer s after ↔ Runs new vectors buffer s after
+  pub same-runs : (vectors buffer : List ℕ) (s : Said) (after : List ℕ) → Runs t vectors buffer s after ↔ Runs new vectors buffer s after
 
-pub record Demand3 (t out : List ℕ) (lags : List ℤ) (s : Says) (out′ : List ℕ) (lags′ : List ℤ) : Type 0 where
+pub record Demand3 (t out : List ℕ) (lags : List ℤ) (s : Said) (out′ : List ℕ) (lags′ : List ℤ) : Type 0 where
   -- "A retimed netlist comes back exactly when some legal retiming meets the period and carries the start."
   pub exactly : (net : Netlist) → Asked t out lags net → (ComesBack s ↔ Startable net)
   -- What comes back needs no such limit: it was within them.

@@ -18,9 +18,9 @@ ghost use Rattle.graph.specs.Columns.{at};
 ghost use Rattle.netlist.specs.Answer.{says};
 ghost use Rattle.netlist.specs.Net.{graphOf, regsOf};
 ghost use Rattle.netlist.specs.Write.{joined};
-ghost use Rattle.simulate.specs.Ran.{Steppable};
-ghost use Rattle.lags.specs.Lags.{lagOf, Sure};
-ghost use Rattle.moves.specs.Labels.{lagsOf, Labelled};
+ghost use Rattle.simulate.specs.inner.Ran.{Steppable};
+ghost use Rattle.lags.specs.inner.Lags.{lagOf, Sure};
+ghost use Rattle.moves.specs.inner.Labels.{lagsOf, Labelled};
 ghost use Rattle.retime.specs.Retime.{Moves, Retimes};
 ghost use Rattle.retime.specs.Demand.{Demand3};
 

@@ -1,12 +1,11 @@
 -- The theorems of specs/Theorems.
 --   one-meaning                          an answer's number tells it
 --   one-read-call, one-check-call, ..    each call has one outcome at most, as the call under it has
--- Assumes nothing.
 use mathlib.Core.Path.{_≡_, sym, ap, ap₂, _∙_}
 use Prim.Native.Nat.{ℕ, _+_, _*_, _<_}
 use native.Mathlib.Omega.{arith}
 use lib.ListN.{length}
-use Rattle.netlist.specs.Answer.{Says, value, refused, andThen, needs, holds}
+use Rattle.netlist.specs.Answer.{Said, value, refused, andThen, needs, holds}
 use Rattle.netlist.specs.Write.{textOf}
 use Rattle.netlist.proofs.theorems.One.{one-reading, one-writing}
 use Rattle.simulate.proofs.theorems.One.{one-run, one-step}
@@ -37,7 +36,7 @@ one-meaning (refused q k p) (refused q′ k′ p′) small small′ e =
 
 -- ── One outcome ─────────────────────────────────────────────────────────────────────────────
 
-coded-alike : {s s′ : Says} {r r′ : ℕ} → s ≡ s′ → r ≡ code s → r′ ≡ code s′ → r ≡ r′
+coded-alike : {s s′ : Said} {r r′ : ℕ} → s ≡ s′ → r ≡ code s → r′ ≡ code s′ → r ≡ r′
 coded-alike e c c′ = c ∙ ap code e ∙ sym c′
 
 pub one-read-call : OneReadCall

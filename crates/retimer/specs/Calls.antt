@@ -7,13 +7,12 @@
 --   RetimeCall t out lags r out′ lags′     a text retimed
 --   RereadCall t out r out′                a text read and written again
 -- Each fixes r and all that is left: specs/Theorems.
--- Assumes nothing.
 use mathlib.Core.Path.{_≡_}
 use mathlib.Core.List.{List}
 use Prim.Native.Nat.{ℕ}
 use lib.IntN.{ℤ}
 use Rattle.netlist.specs.declared.Netlist.{Netlist}
-use Rattle.netlist.specs.Answer.{Says, value, refused}
+use Rattle.netlist.specs.Answer.{Said, value, refused}
 use Rattle.netlist.specs.Read.{Reads}
 use Rattle.netlist.specs.Write.{Writes, textOf}
 use Rattle.simulate.specs.declared.Machine.{Machine}
@@ -25,7 +24,7 @@ use Rattle.show.specs.Shown.{Rewrites}
 use Rattle.retimer.specs.Code.{Coded}
 
 -- What a lent record holds after reading: what was read, or after a refusal what it held ("nothing lent is touched").
-abbrev pub putBack : Says → Netlist → Netlist → Netlist
+abbrev pub putBack : Said → Netlist → Netlist → Netlist
 putBack (value n) read old = read
 putBack (refused q k p) read old = old
 

@@ -1,24 +1,23 @@
 -- The library's calls leave nothing open.
 --   Small, OneMeaning                 a number stands for one answer only
 --   OneReadCall, OneCheckCall, ..     what a call was lent fixes its number and all that it leaves
--- Assumes nothing.
 use mathlib.Core.Path.{_≡_}
 use mathlib.Core.List.{List}
 use Prim.Native.Nat.{ℕ, _<_}
 use lib.IntN.{ℤ}
 use Rattle.netlist.specs.declared.Netlist.{Netlist}
-use Rattle.netlist.specs.Answer.{Says, value, refused}
+use Rattle.netlist.specs.Answer.{Said, value, refused}
 use Rattle.simulate.specs.declared.Machine.{Machine}
 use Rattle.retimer.specs.Code.{code}
 use Rattle.retimer.specs.Calls.{ReadCall, CheckCall, WriteCall, StepCall, RunCall, RetimeCall, RereadCall}
 
 -- A number of bytes, or "number (1), place kind (1), place (2)".
-abbrev pub Small : Says → Type 0
+abbrev pub Small : Said → Type 0
 Small (value n) = n < 9223372036854775808
 Small (refused q k p) = (q < 256) × (k < 256) × (p < 65536)
 
 abbrev pub OneMeaning : Type 0
-OneMeaning = (s s′ : Says) → Small s → Small s′ → code s ≡ code s′ → s ≡ s′
+OneMeaning = (s s′ : Said) → Small s → Small s′ → code s ≡ code s′ → s ≡ s′
 
 abbrev pub OneReadCall : Type 0
 OneReadCall = (t : List ℕ) (net : Netlist) (r r′ : ℕ) (new new′ : Netlist) → ReadCall t net r new → ReadCall t net r′ new′ → (r ≡ r′) × (new ≡ new′)

@@ -2,7 +2,6 @@
 --   tabFrom f i n       f i, f (i + 1), …, n of them
 --   table               the rule at each entry, from one test over the whole table
 --   last-test           the last test of a row of tests says what the row says
--- Assumes nothing.
 use Prim.Native.Nat.{ℕ, zero, suc, _+_, _<_}
 use mathlib.Core.Path.{_≡_, refl}
 use mathlib.Core.Bool.{Bool, true, false, cond}

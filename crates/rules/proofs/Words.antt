@@ -1,6 +1,5 @@
 -- Words: a word of k bits and its leading zeros.
 --   leading-clear       no bit stands at or above the count exactly where enough zeros lead
--- Assumes nothing.
 use mathlib.Core.Path.{_≡_, sym, _∙_}
 use Prim.Native.Nat.{ℕ, suc, _+_, _-_, _*_, _<_, _≤_, _^_}
 use native.Mathlib.Nat.{lt-of-lt-of-le, lt-of-not-le, pow-suc}

@@ -3,7 +3,6 @@
 --   headFits            the head's numbers are in their ranges (else 2)
 --   nodeFits            a node's gate kind and delay go together (else 3)
 --   edgeFits            an edge's numbers keep its rules (else 4)
--- Assumes nothing.
 use mathlib.Core.Bool.{Bool, true, false, cond, not}
 use mathlib.Core.List.{List, [], _∷_}
 use Prim.Native.Nat.{ℕ, _^_}

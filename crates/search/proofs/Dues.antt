@@ -11,7 +11,6 @@
 --   ranked-first        more levels leave the places of the lower ones
 --   ranked-holds        every due of a level below m stands at some place
 -- By the laws of items sorted by key: the items are the places of the dues, the keys their levels.
--- Assumes nothing.
 use Prim.Native.Nat.{ℕ, zero, suc, _+_, _-_, _/_, _≤_, _<_}
 use native.Mathlib.Omega.{arith}
 use native.Mathlib.Decide.{ℕ-discrete}
@@ -22,10 +21,10 @@ use lib.ListN.{length, take, drop, length-map, List·getD-append}
 use lib.Seq.{take-suc, take-add, drop-drop}
 use Rattle.theory.specs.Clock.{gather}
 use Rattle.graph.specs.Columns.{at}
-use Rattle.graph.specs.Sort.{group, sorted, Stands}
+use Rattle.graph.specs.inner.Sort.{group, sorted, Stands}
 use Rattle.graph.proofs.Sorted.{group-hit, group-miss, sorted-prefix, sorted-grows, sorted-place, sorted-holds, sorted-room}
-use Rattle.gates.specs.Gates.{part}
-use Rattle.search.specs.Rows.{ofLevel}
+use Rattle.gates.specs.inner.Gates.{part}
+use Rattle.search.specs.inner.Rows.{ofLevel}
 
 pub part-join : (l : List ℕ) (lo x hi : ℕ) → lo ≤ x → x ≤ hi → part l lo hi ≡ part l lo x ++ part l x hi
 part-join l lo x hi h r =

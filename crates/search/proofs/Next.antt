@@ -6,7 +6,6 @@
 --   Advancing           before each turn of `advance`: from place x on the bits are 0, and below they are as they were
 --   advancing-turn      one place further, where the bit there is to turn to 0
 --   advanced-one, advanced-none     at the end: the 0 before place x turns to 1, if there is one
--- Assumes nothing.
 use Prim.Native.Nat.{ℕ, suc, _+_, _-_, _*_, _^_, _/_, _%_, _<_, _≤_}
 use native.Mathlib.Omega.{arith}
 use native.Mathlib.Nat.{mul-le-mul-right, lt-div-mul-add, suc-mul, mul-assoc, pow-suc, pow-succ', div-eq-of-lt}
@@ -20,7 +19,7 @@ use lib.Seq.{getD-set-same, getD-set-other}
 use lib.Pow.{pow-pos, pow-add, shr-lt, shr-shr, shl-shr}
 use Rattle.theory.specs.Move.{digit}
 use Rattle.graph.specs.Columns.{at}
-use Rattle.search.specs.States.{nextAfter, Shown, Advanced}
+use Rattle.search.specs.inner.States.{nextAfter, ChoiceShown, Advanced}
 
 -- ── The next choice ─────────────────────────────────────────────────────────────────────────
 
@@ -78,7 +77,7 @@ pub record Advancing (k m : ℕ) (old sig : List ℕ) (x : ℕ) : Type 0 where
   pub low : (j : ℕ) → j < x → at sig j ≡ at old j
   pub zeros : (j : ℕ) → x ≤ j → j < k → at sig j ≡ 0
   pub high : (j : ℕ) → k ≤ j → at sig j ≡ at old j
-  pub next : (c : ℕ) → Shown k c old → x ≤ m → nextAfter c (k - x) ≡ nextAfter c (k - m)
+  pub next : (c : ℕ) → ChoiceShown k c old → x ≤ m → nextAfter c (k - x) ≡ nextAfter c (k - m)
 
 module _ {k m : ℕ} {old sig : List ℕ} {x : ℕ} (s : Advancing k m old sig x) (rows : k ≤ length old) where
   -- The bit before place x turns to 0: one from place m on, or a 1.
@@ -96,7 +95,7 @@ module _ {k m : ℕ} {old sig : List ℕ} {x : ℕ} (s : Advancing k m old sig x
       cleared j a b (yes e) = ap (at (set sig (x - 1) 0)) e ∙ getD-set-same sig (x - 1) 0 0 (omega (arith, s .size))
       cleared j a b (no e) = getD-set-other sig (x - 1) j 0 0 e ∙ s .zeros j (omega arith) b
 
-      go : (c : ℕ) → Shown k c old → x - 1 ≤ m → (m < x) ⊎ (at sig (x - 1) ≡ 1) → nextAfter c (k - (x - 1)) ≡ nextAfter c (k - m)
+      go : (c : ℕ) → ChoiceShown k c old → x - 1 ≤ m → (m < x) ⊎ (at sig (x - 1) ≡ 1) → nextAfter c (k - (x - 1)) ≡ nextAfter c (k - m)
       go c w a (inl b) = let z : x - 1 ≡ m = omega arith in ap (λ n. nextAfter c (k - n)) z
       go c w a (inr b) = one (ℕ-discrete (x - 1) m)
         where
@@ -110,7 +109,7 @@ module _ {k m : ℕ} {old sig : List ℕ} {x : ℕ} (s : Advancing k m old sig x
 
   -- ── The end: the bit before place x is 0, or there is none ────────────────────────────────
 
-  module _ (l : x ≤ m) (h : 0 < x → ¬ (at sig (x - 1) ≡ 1)) (c : ℕ) (u : c < 2 ^ k) (w : Shown k c old) where
+  module _ (l : x ≤ m) (h : 0 < x → ¬ (at sig (x - 1) ≡ 1)) (c : ℕ) (u : c < 2 ^ k) (w : ChoiceShown k c old) where
     even : c / 2 ^ (k - x) % 2 ≡ 0
     even = go (ℕ-discrete x 0)
       where
@@ -161,7 +160,7 @@ module _ {k m : ℕ} {old sig : List ℕ} {x : ℕ} (s : Advancing k m old sig x
       agree = ended-agree l h;
     }
       where
-        go : (c : ℕ) → c < 2 ^ k → Shown k c old → (y : ℕ) → y < k → Dec (y ≡ x - 1) → Dec (y < x) → at (set sig (x - 1) 1) y ≡ digit k (nextAfter c (k - m)) y
+        go : (c : ℕ) → c < 2 ^ k → ChoiceShown k c old → (y : ℕ) → y < k → Dec (y ≡ x - 1) → Dec (y < x) → at (set sig (x - 1) 1) y ≡ digit k (nextAfter c (k - m)) y
         go c u w y a (yes e) d =
             ap (at (set sig (x - 1) 1)) e ∙ getD-set-same sig (x - 1) 1 0 (omega (arith, s .size, s .few)) ∙ ended-top l h c u w y (omega arith)
         go c u w y a (no e) (yes d) = getD-set-other sig (x - 1) y 1 0 e ∙ ended-before l h c u w y (omega arith)

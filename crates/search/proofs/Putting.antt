@@ -16,7 +16,6 @@
 --   ranking-room        those of the next level have places
 --   ranking-turn        one level further
 --   ranking-rows, ranking-same      after the last level
--- Assumes nothing.
 use Prim.Native.Nat.{ℕ, zero, suc, _+_, _-_, _/_, _≤_, _<_}
 use native.Mathlib.Omega.{arith}
 use native.Mathlib.Decide.{ℕ-discrete, decLt}
@@ -26,12 +25,12 @@ use mathlib.Core.List.{List, [], _∷_, _++_}
 use lib.ListN.{length, take, set, length-append, length-set}
 use lib.Seq.{sets, length-sets, getD-set-same, getD-set-other}
 use Rattle.graph.specs.Columns.{at}
-use Rattle.graph.specs.Sort.{Stands}
+use Rattle.graph.specs.inner.Sort.{Stands}
 use Rattle.graph.proofs.Sorted.{sets-at}
-use Rattle.gates.specs.Gates.{part}
+use Rattle.gates.specs.inner.Gates.{part}
 use Rattle.gates.proofs.Words.{part-length}
-use Rattle.search.specs.Program.{Owes}
-use Rattle.search.specs.Rows.{ofLevel, Ends, Rows, Same}
+use Rattle.search.specs.inner.Program.{Owes}
+use Rattle.search.specs.inner.Rows.{ofLevel, RowsEnd, Rows, SameDues}
 use Rattle.search.proofs.Dues.{part-join, level-none, level-hit, level-miss, level-append, level-few, ranked, ranked-more, ranked-room, ranked-place, ranked-grows, ranked-first, ranked-holds}
 
 -- ── Columns ─────────────────────────────────────────────────────────────────────────────────
@@ -90,7 +89,7 @@ module _ {level : List ℕ} {m : ℕ} {whole old : List ℕ} {n : ℕ} {rest row
       let z = ap (ofLevel level m) e ∙ level-none level m in
       (sym (ap (sets row p) z) ∙ s .written, omega (arith, s .next, ap length z))
 
-ends-more : (left after : List ℕ) {a b r : ℕ} → Ends left a b → Ends after b r → ((d : ℕ) → d < b → at after d ≡ at left d) → b ≤ r → Ends after a r
+ends-more : (left after : List ℕ) {a b r : ℕ} → RowsEnd left a b → RowsEnd after b r → ((d : ℕ) → d < b → at after d ≡ at left d) → b ≤ r → RowsEnd after a r
 ends-more left after {a} {b} {r} old new kept h d l m = go (decLt d b)
   where
     go : Dec (d < b) → (1 ≤ at after d) × (d + at after d ≤ r)
@@ -103,7 +102,7 @@ pub record Rowing (level : List ℕ) (m : ℕ) (due begin : List ℕ) (edges : �
   pub low : e ≤ edges
   pub onward : Onward level m (take (at begin edges) due) old start (part due (at begin e) (at begin edges)) row n
   pub up : start ≤ n
-  pub ends : Ends left start n
+  pub ends : RowsEnd left start n
   pub same : (d : ℕ) → d < start → at left d ≡ at kept d
   pub size : length left ≡ length kept
 
@@ -151,7 +150,7 @@ module _ {level : List ℕ} {m : ℕ} {due begin : List ℕ} {edges : ℕ} {old 
       omega (arith, r .2, level-few level m (part due lo hi), part-length due lo hi (omega (arith, r .1, o .due-rows)))
 
   pub rowing-turn : {after left′ : List ℕ} {r : ℕ} → after ≡ sets row n (ofLevel level m (part due (at begin e) (at begin (e + 1))))
-      → r ≡ n + length (ofLevel level m (part due (at begin e) (at begin (e + 1)))) → Ends left′ n r → ((d : ℕ) → d < n → at left′ d ≡ at left d)
+      → r ≡ n + length (ofLevel level m (part due (at begin e) (at begin (e + 1)))) → RowsEnd left′ n r → ((d : ℕ) → d < n → at left′ d ≡ at left d)
       → length left′ ≡ length left → Rowing level m due begin edges old kept start after left′ r (e + 1)
   rowing-turn {after} {left′} {r} a b new stay same = record {
     low = omega arith;
@@ -169,7 +168,7 @@ pub record Ranking (level due : List ℕ) (total many : ℕ) (old row : List ℕ
   pub next : n ≡ length (ranked level due total m)
   pub written : row ≡ sets old 0 (ranked level due total m)
   pub left-size : length left ≡ size
-  pub ends : Ends left 0 n
+  pub ends : RowsEnd left 0 n
   pub rows-size : length rows ≡ places
   pub begins : (j : ℕ) → j < m → at rows j ≡ length (ranked level due total j)
 
@@ -188,7 +187,7 @@ module _ {level due : List ℕ} {total many : ℕ} {old row : List ℕ} {size : 
   begins-more = fill-each (λ j v. v ≡ length (ranked level due total j)) rows m n (omega (arith, s .rows-size, s .low)) (s .next) (s .begins)
 
   pub ranking-turn : {after left′ : List ℕ} {r : ℕ} → m < many → after ≡ sets row n (ofLevel level m (take total due))
-      → r ≡ n + length (ofLevel level m (take total due)) → Ends left′ n r → ((d : ℕ) → d < n → at left′ d ≡ at left d) → length left′ ≡ length left
+      → r ≡ n + length (ofLevel level m (take total due)) → RowsEnd left′ n r → ((d : ℕ) → d < n → at left′ d ≡ at left d) → length left′ ≡ length left
       → Ranking level due total many old after size left′ places (set rows m n) r (m + 1)
   ranking-turn {after} {left′} {r} l e f new kept same =
       let z = ranked-more level due total fits m in
@@ -221,10 +220,10 @@ module _ {level due : List ℕ} {total many : ℕ} {old row : List ℕ} {size : 
           let f = ranked-first level due total fits j m d (omega arith) w in
           let g : d < n = omega (arith, s .next, ranked-grows level due total fits j m (omega arith)) in
           subst (λ y. at level (y / 2) < j) (sym (row-at d g ∙ f)) (ranked-place level due total fits j d w .low);
-      ends = subst (Ends left 0) (sym last) (s .ends);
+      ends = subst (RowsEnd left 0) (sym last) (s .ends);
     }
 
-    pub ranking-same : ((x : ℕ) → x < total → at level (at due x / 2) < many) → Same due total row (at (set rows many n) many)
+    pub ranking-same : ((x : ℕ) → x < total → at level (at due x / 2) < many) → SameDues due total row (at (set rows many n) many)
     ranking-same keyed = rw last (record {
       few = ranking-small;
       sound = λ d h. subst (λ y. Stands due total y) (sym (row-at d h)) (ranked-place level due total fits m d (omega (arith, s .next)) .stands);

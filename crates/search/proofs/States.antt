@@ -13,7 +13,6 @@
 -- Why a jump is right: it passes over choices that agree with the dropped one on all bits on which the wrong cell depends, so they give it the same wrong
 -- value (`jump-tried`). The new choice agrees with the dropped one on the bits on which the cells below the first changed level depend: these keep their
 -- values (`jump-keeps`), and what was due of them agrees still. They and their dues were all looked at before the wrong one, whose level is no lower.
--- Assumes nothing.
 use Prim.Native.Nat.{ℕ, suc, _+_, _-_, _^_, _/_, _%_, _<_, _≤_}
 use native.Mathlib.Omega.{arith}
 use native.Mathlib.Nat.{zero-div, div-eq-of-lt-le, div-mul-le-self}
@@ -27,21 +26,21 @@ use lib.ListN.{length, set, length-set}
 use lib.Seq.{getD-set-same, getD-set-other}
 use Rattle.theory.specs.Gate.{gate}
 use Rattle.graph.specs.Columns.{at}
-use Rattle.gates.specs.Gates.{part, Reckons, Seen}
-use Rattle.search.specs.Program.{look, valuesTo, valueAt, Holds, Solves}
-use Rattle.search.specs.Rows.{Level}
-use Rattle.search.specs.States.{Ready, Valued, nextAfter, Jumped, Plan}
+use Rattle.gates.specs.inner.Gates.{part, Reckons, InputRows}
+use Rattle.search.specs.inner.Program.{look, valuesTo, valueAt, GivesDues, Solves}
+use Rattle.search.specs.inner.Rows.{Level}
+use Rattle.search.specs.inner.States.{Executable, Valued, nextAfter, Jumped, Plan}
 use Rattle.search.proofs.Putting.{climb}
 use Rattle.search.proofs.Next.{next-bounds}
 use Rattle.search.proofs.Values.{part-same, look-bit, look-cell, values-at, value-gate, operand-bit, agree}
 
 -- ── Cells ───────────────────────────────────────────────────────────────────────────────────
 
-pub truth-next : {cells k : ℕ} {kind first operand truth index : List ℕ} {i : ℕ} → Ready cells k kind first operand truth index → i < cells
+pub truth-next : {cells k : ℕ} {kind first operand truth index : List ℕ} {i : ℕ} → Executable cells k kind first operand truth index → i < cells
     → Reckons (at kind i) (at first (i + 1) - at first i) (at truth i)
 truth-next {i = i} r l = rw (add-one i) (r .truths i l)
 
-module _ {cells k : ℕ} {kind first operand truth index : List ℕ} {c p : ℕ} {sig : List ℕ} (r : Ready cells k kind first operand truth index)
+module _ {cells k : ℕ} {kind first operand truth index : List ℕ} {c p : ℕ} {sig : List ℕ} (r : Executable cells k kind first operand truth index)
     (s : Valued cells k kind first operand c p sig) (l : p < cells) where
   -- An operand is a bit, or a cell before.
   signal : (j : ℕ) → at first p ≤ j → j < at first (suc p) → at sig (at operand j) ≡ look k c (valuesTo kind first operand k c p) (at operand j)
@@ -57,7 +56,7 @@ module _ {cells k : ℕ} {kind first operand truth index : List ℕ} {c p : ℕ}
           ∙ sym (values-at kind first operand k c p m (omega arith))
           ∙ sym (look-cell k c _ (at operand j) (w .0))
 
-  pub valued-seen : Seen (at truth p) operand (at first p) (at first (p + 1)) sig
+  pub valued-seen : InputRows (at truth p) operand (at first p) (at first (p + 1)) sig
   valued-seen = rw (add-one p) (record {
     up = r .program .rising p l;
     in-list = r .program .in-rows p l;
@@ -92,14 +91,14 @@ module _ {cells k : ℕ} {kind first operand truth index : List ℕ} {c p : ℕ}
 -- ── Choices ─────────────────────────────────────────────────────────────────────────────────
 
 abbrev Tried : ℕ → List ℕ → List ℕ → List ℕ → List ℕ → ℕ → ℕ → Type 0
-Tried k kind first operand row dues c = (d : ℕ) → d < c → ¬ Holds k kind first operand row dues d
+Tried k kind first operand row dues c = (d : ℕ) → d < c → ¬ GivesDues k kind first operand row dues d
 
 pub record Searching (k : ℕ) (kind first operand levels row rows : List ℕ) (c p : ℕ) (sig : List ℕ) (d : ℕ) : Type 0 where
   pub limit : c ≤ 2 ^ k
   pub tried : Tried k kind first operand row (at rows (suc k)) c
   pub valued : Valued (at levels (suc k)) k kind first operand c p sig
   pub few : d ≤ at rows (suc k)
-  pub agreed : Holds k kind first operand row d c
+  pub agreed : GivesDues k kind first operand row d c
 
 module _ {k : ℕ} {kind first operand levels level row left rows : List ℕ} (g : Plan k kind first operand levels level row left rows) where
   pub searching-start : (sig : List ℕ) → length sig ≡ 12320 → ((x : ℕ) → x < 12320 → at sig x ≡ 0) → Searching k kind first operand levels row rows 0 0 sig 0

@@ -5,7 +5,6 @@
 --   value-gate, value-bit      a cell's value is its gate's, of what its operands show: 0 or 1
 --   operand-bit                so is what an operand shows
 --   agree                      choices with the same first m bits give the same to every cell of a level up to m
--- Assumes nothing.
 use Prim.Native.Nat.{ℕ, zero, suc, _+_, _-_, _^_, _/_, _%_, _<_, _≤_}
 use native.Mathlib.Omega.{arith}
 use native.Mathlib.Decide.{ℕ-discrete}
@@ -19,9 +18,9 @@ use Rattle.theory.specs.Gate.{gate}
 use Rattle.theory.specs.Move.{digit}
 use Rattle.theory.proofs.clocks.Gate.{gate-bit}
 use Rattle.graph.specs.Columns.{at}
-use Rattle.gates.specs.Gates.{part}
+use Rattle.gates.specs.inner.Gates.{part}
 use Rattle.gates.proofs.Words.{part-length, part-at}
-use Rattle.search.specs.Program.{look, operandsOf, valuesTo, valueAt, Program, Levelled}
+use Rattle.search.specs.inner.Program.{look, operandsOf, valuesTo, valueAt, Program, Levelled}
 use Rattle.search.proofs.Putting.{climb}
 use Rattle.search.proofs.Next.{same-above}
 

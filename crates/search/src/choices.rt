@@ -10,8 +10,8 @@ ghost use mathlib.Core.Path.{_≡_};
 ghost use Prim.Native.Nat.{suc, _-_, _^_, _≤_, _<_};
 ghost use lib.ListN.{length};
 ghost use Rattle.graph.specs.Columns.{at};
-ghost use Rattle.search.specs.Program.{Solves};
-ghost use Rattle.search.specs.States.{nextAfter, Shown, Begun, Evaluated, Advanced, Jumped, Plan};
+ghost use Rattle.search.specs.inner.Program.{Solves};
+ghost use Rattle.search.specs.inner.States.{nextAfter, ChoiceShown, CanEvaluate, EvaluatedTo, Advanced, Jumped, Plan};
 
 // Where the search goes on: a choice, the first cell to evaluate, the first due to look at.
 struct Turn {
@@ -38,8 +38,8 @@ fn evaluate(
     end: usize,
     sig: &mut [u8],
 ) -> usize
-    requires { ⌜ Begun (now truth) (now index) (now first) (now operand) start end (now sig) ⌝ }
-    ensures { λ r. ⌜ Evaluated (now (truth .entry)) (now (index .entry)) (now (first .entry)) (now (operand .entry)) start end (now (sig .entry)) (now (sig .exit)) r ⌝ }
+    requires { ⌜ CanEvaluate (now truth) (now index) (now first) (now operand) start end (now sig) ⌝ }
+    ensures { λ r. ⌜ EvaluatedTo (now (truth .entry)) (now (index .entry)) (now (first .entry)) (now (operand .entry)) start end (now (sig .entry)) (now (sig .exit)) r ⌝ }
 {
     let mut i = start;
     while i < end {
@@ -79,7 +79,7 @@ fn advance(k: usize, m: usize, sig: &mut [u8]) -> usize
 // On to the first choice that differs in one of the first m bits, and there to the first cell and the first due that depend on a changed bit.
 fn jump(choice: u32, k: u32, m: usize, levels: &[u16], rows: &[u16], sig: &mut [u8]) -> Turn
     requires { ⌜ (choice < 2 ^ k) × (k ≤ 24) × (m ≤ k) × (k < length (now levels)) × (k < length (now rows)) × (k ≤ length (now sig)) ⌝ }
-    requires { ⌜ Shown k choice (now sig) ⌝ }
+    requires { ⌜ ChoiceShown k choice (now sig) ⌝ }
     ensures { λ r. ⌜ Jumped choice k m (now (levels .entry)) (now (rows .entry)) (now (sig .entry)) (now (sig .exit)) (r .choice) (r .cell) (r .due) ⌝ }
 {
     let x = advance(k as usize, m, sig);

@@ -8,7 +8,7 @@ use crate::rows::levels_of;
 use crate::rows::put_rows;
 ghost use Prim.Native.Nat.{suc};
 ghost use Rattle.graph.specs.Columns.{at};
-ghost use Rattle.search.specs.Program.{Program, Owes, Levelled, Solves};
+ghost use Rattle.search.specs.inner.Program.{Program, Owes, Levelled, Solves};
 
 // found: `choice` is the smallest that gives what is due.
 pub struct Choice {

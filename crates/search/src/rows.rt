@@ -5,9 +5,9 @@ ghost use Prim.Native.Nat.{ℕ, suc, _+_, _/_, _<_, _≤_};
 ghost use lib.ListN.{length, take};
 ghost use lib.Seq.{sets};
 ghost use Rattle.graph.specs.Columns.{at};
-ghost use Rattle.gates.specs.Gates.{part};
-ghost use Rattle.search.specs.Program.{Owes};
-ghost use Rattle.search.specs.Rows.{Level, ofLevel, Ends, Rows, Same};
+ghost use Rattle.gates.specs.inner.Gates.{part};
+ghost use Rattle.search.specs.inner.Program.{Owes};
+ghost use Rattle.search.specs.inner.Rows.{Level, ofLevel, RowsEnd, Rows, SameDues};
 
 // The level of each cell.
 pub fn levels_of(levels: &[u16], many: usize) -> [u8; 12288]
@@ -60,7 +60,7 @@ fn put_row(
 // A row from place `start` up to `end`: how much of it is left at each of its places.
 fn put_left(start: usize, end: usize, left: &mut [u8])
     requires { ⌜ (start ≤ end) × (end ≤ start + 255) × (end ≤ length (now left)) ⌝ }
-    ensures { λ _. ⌜ Ends (now (left .exit)) start end × ((d : ℕ) → d < start → at (now (left .exit)) d ≡ at (now (left .entry)) d) ⌝ }
+    ensures { λ _. ⌜ RowsEnd (now (left .exit)) start end × ((d : ℕ) → d < start → at (now (left .exit)) d ≡ at (now (left .entry)) d) ⌝ }
 {
     let mut d = start;
     while d < end {
@@ -85,7 +85,7 @@ fn put_level(
     requires { ⌜ start + length (ofLevel (now level) m (take (at (now begin) edges) (now due))) ≤ length (now left) ⌝ }
     ensures { λ r. ⌜ now (row .exit) ≡ sets (now (row .entry)) start (ofLevel (now (level .entry)) m (take (at (now (begin .entry)) edges) (now (due .entry)))) ⌝ }
     ensures { λ r. ⌜ r ≡ start + length (ofLevel (now (level .entry)) m (take (at (now (begin .entry)) edges) (now (due .entry)))) ⌝ }
-    ensures { λ r. ⌜ Ends (now (left .exit)) start r × ((d : ℕ) → d < start → at (now (left .exit)) d ≡ at (now (left .entry)) d) ⌝ }
+    ensures { λ r. ⌜ RowsEnd (now (left .exit)) start r × ((d : ℕ) → d < start → at (now (left .exit)) d ≡ at (now (left .entry)) d) ⌝ }
 {
     let mut n = start;
     let mut e = 0;
@@ -115,7 +115,7 @@ pub fn put_rows(
     requires { ⌜ ((x : ℕ) → x < at (now begin) edges → at (now level) (at (now due) x / 2) < many) ⌝ }
     requires { ⌜ (at (now begin) edges ≤ length (now row)) × (at (now begin) edges ≤ length (now left)) × (many < length (now rows)) ⌝ }
     ensures { λ _. ⌜ Rows many (now (level .entry)) (now (row .exit)) (now (left .exit)) (now (rows .exit)) ⌝ }
-    ensures { λ _. ⌜ Same (now (due .entry)) (at (now (begin .entry)) edges) (now (row .exit)) (at (now (rows .exit)) many) ⌝ }
+    ensures { λ _. ⌜ SameDues (now (due .entry)) (at (now (begin .entry)) edges) (now (row .exit)) (at (now (rows .exit)) many) ⌝ }
 {
     let mut n = 0;
     let mut m = 0;

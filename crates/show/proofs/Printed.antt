@@ -4,7 +4,6 @@
 --   rereads-text, rereads-refusal   what is printed in the two cases
 --   line-fits           what is printed is in the buffer
 --   counted             so many bytes as a buffer has can be taken from its front
--- Assumes nothing.
 use Prim.Native.Nat.{ℕ, _+_, _/_, _%_, _≤_}
 use mathlib.Core.Path.{_≡_, refl, ap, ap₂, sym, _∙_, subst}
 use mathlib.Core.Bool.{Bool, true, false, cond}
@@ -15,15 +14,14 @@ use lib.Dec.{leb}
 use lib.ListN.{length}
 use lib.Seq.{sets-eq, length-take-le}
 use Rattle.io.specs.Counts.{Counts}
-use Rattle.frame.specs.Frame.{bytesOf, lineOf}
-use Rattle.frame.specs.Decoded.{placed}
+use Rattle.frame.specs.Frame.{bytesOf, lineOf, placed}
 use Rattle.frame.proofs.Laws.{length-line, placed-room, length-placed}
 use Rattle.netlist.specs.declared.Netlist.{Netlist}
 use Rattle.netlist.specs.declared.Place.{Place}
 use Rattle.netlist.specs.declared.Place.the-variants.{Whole, Line, Node, Edge}
 use Rattle.netlist.specs.declared.Answer.{Answer}
 use Rattle.netlist.specs.declared.Answer.the-variants.{Done, Refused}
-use Rattle.netlist.specs.Answer.{Says, value, says, andThen, needs, holds}
+use Rattle.netlist.specs.Answer.{Said, value, says, andThen, needs, holds}
 use Rattle.netlist.specs.Read.{Reads}
 use Rattle.netlist.specs.Write.{textOf, Writes}
 use Rattle.netlist.proofs.Answered.{stands}
@@ -62,7 +60,7 @@ rewrites-stop t old a net e r =
     record { said = says a; net = net; reads = r; answer = s .0; buffer = s .1 }
 
 -- What was read has the text for its own, so it is checked as it was read.
-pub rewrites-done : (t old : List ℕ) (a : Answer) (net : Netlist) (s : Says) (new : List ℕ) {n : ℕ} → a ≡ Done n → Reads t (says a) net → Writes net old s new
+pub rewrites-done : (t old : List ℕ) (a : Answer) (net : Netlist) (s : Said) (new : List ℕ) {n : ℕ} → a ≡ Done n → Reads t (says a) net → Writes net old s new
     → Rewrites t old s new
 rewrites-done t old a net s new {n} e r w =
     let v : Reads t (value n) net = subst (λ x. Reads t (says x) net) e r in

@@ -1,15 +1,14 @@
 -- The place kind and the place of a refusal, as `says` gives them.
--- Assumes nothing.
 use Prim.Native.Nat.{ℕ}
-use Rattle.netlist.specs.Answer.{Says, value, refused, says}
+use Rattle.netlist.specs.Answer.{Said, value, refused, says}
 use Rattle.netlist.specs.declared.Place.{Place}
 use Rattle.netlist.specs.declared.Answer.the-variants.{Refused}
 
-abbrev pub kindIn : Says → ℕ
+abbrev pub kindIn : Said → ℕ
 kindIn (value n) = 0
 kindIn (refused q k p) = k
 
-abbrev pub placeIn : Says → ℕ
+abbrev pub placeIn : Said → ℕ
 placeIn (value n) = 0
 placeIn (refused q k p) = p
 

@@ -1,6 +1,6 @@
 // What the programs print of a call's answer.
 ghost use mathlib.Core.Path.{_≡_};
-ghost use Rattle.frame.specs.Decoded.{placed};
+ghost use Rattle.frame.specs.Frame.{placed};
 ghost use Rattle.io.specs.Counts.{Counts};
 ghost use Rattle.netlist.specs.Answer.{says};
 ghost use Rattle.netlist.specs.declared.Answer.the-variants.{Refused};

@@ -1,7 +1,6 @@
 -- Bits written as digits.
 --   digits-none, digits-more, digits-end    before the first one, one more, and the line feed behind the last
 --   length-digits       how long the line is
--- Assumes nothing.
 use Prim.Native.Nat.{ℕ, _+_, _≤_, _<_}
 use native.Mathlib.Omega.{arith}
 use native.Mathlib.Numerals.{add-one}
@@ -10,25 +9,25 @@ use mathlib.Core.List.{List, [], _∷_, _++_, map}
 use lib.ListN.{length, take, set, getD, length-append, length-map}
 use lib.Seq.{sets, take-suc, length-take-le}
 use Rattle.frame.proofs.Laws.{sets-sets}
-use Rattle.show_run.specs.Printed.{digitOf, digitLine}
+use Rattle.show_run.specs.Printed.{bitDigit, digitLine}
 
-map-append : (xs ys : List ℕ) → map digitOf (xs ++ ys) ≡ map digitOf xs ++ map digitOf ys
+map-append : (xs ys : List ℕ) → map bitDigit (xs ++ ys) ≡ map bitDigit xs ++ map bitDigit ys
 map-append [] ys = refl
-map-append (x ∷ xs) ys = ap (λ l. digitOf x ∷ l) (map-append xs ys)
+map-append (x ∷ xs) ys = ap (λ l. bitDigit x ∷ l) (map-append xs ys)
 
 module _ (bits old : List ℕ) where
-  digits-long : (i : ℕ) → i ≤ length bits → length (map digitOf (take i bits)) ≡ i
-  digits-long i h = length-map (take i bits) digitOf ∙ length-take-le i bits h
+  digits-long : (i : ℕ) → i ≤ length bits → length (map bitDigit (take i bits)) ≡ i
+  digits-long i h = length-map (take i bits) bitDigit ∙ length-take-le i bits h
 
-  pub digits-more : (i : ℕ) → i < length bits → set (sets old 0 (map digitOf (take i bits))) i (digitOf (getD bits i 0)) ≡ sets old 0 (map digitOf (take (i + 1) bits))
+  pub digits-more : (i : ℕ) → i < length bits → set (sets old 0 (map bitDigit (take i bits))) i (bitDigit (getD bits i 0)) ≡ sets old 0 (map bitDigit (take (i + 1) bits))
   digits-more i h =
-      sets-sets (map digitOf (take i bits)) (digitOf (getD bits i 0) ∷ []) old 0 i (omega (arith, digits-long i (omega arith)))
-      ∙ ap (sets old 0) (sym (ap (map digitOf) (ap (λ n. take n bits) (add-one i) ∙ take-suc bits i 0 h) ∙ map-append (take i bits) (getD bits i 0 ∷ [])))
+      sets-sets (map bitDigit (take i bits)) (bitDigit (getD bits i 0) ∷ []) old 0 i (omega (arith, digits-long i (omega arith)))
+      ∙ ap (sets old 0) (sym (ap (map bitDigit) (ap (λ n. take n bits) (add-one i) ∙ take-suc bits i 0 h) ∙ map-append (take i bits) (getD bits i 0 ∷ [])))
 
-  pub digits-end : (n : ℕ) → n ≤ length bits → set (sets old 0 (map digitOf (take n bits))) n 10 ≡ sets old 0 (digitLine (take n bits))
+  pub digits-end : (n : ℕ) → n ≤ length bits → set (sets old 0 (map bitDigit (take n bits))) n 10 ≡ sets old 0 (digitLine (take n bits))
   unfolding digitLine
-  digits-end n h = sets-sets (map digitOf (take n bits)) (10 ∷ []) old 0 n (omega (arith, digits-long n h))
+  digits-end n h = sets-sets (map bitDigit (take n bits)) (10 ∷ []) old 0 n (omega (arith, digits-long n h))
 
   pub length-digits : (n : ℕ) → n ≤ length bits → length (digitLine (take n bits)) ≡ n + 1
   unfolding digitLine
-  length-digits n h = length-append (map digitOf (take n bits)) (10 ∷ []) ∙ omega (arith, digits-long n h)
+  length-digits n h = length-append (map bitDigit (take n bits)) (10 ∷ []) ∙ omega (arith, digits-long n h)

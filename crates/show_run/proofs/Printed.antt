@@ -1,7 +1,6 @@
 -- What is printed of a run: its outputs, or the line of its refusal; or nothing, where there is no room.
 --   run-room            the outputs of a run are in its buffer
 --   prints-digits, prints-none, prints-refusal    the three ends of `put_run`
--- Assumes nothing.
 use Prim.Native.Nat.{ℕ, _+_, _*_, _%_, _≤_, _<_}
 use native.Mathlib.Omega.{arith}
 use mathlib.Core.Path.{_≡_, refl, sym, ap, _∙_}
@@ -12,30 +11,30 @@ use lib.Dec.{eqb}
 use lib.ListN.{length, take}
 use lib.Seq.{sets, length-sets}
 use Rattle.io.specs.Counts.{Counts}
-use Rattle.frame.specs.Decoded.{placed}
+use Rattle.frame.specs.Frame.{placed}
 use Rattle.frame.proofs.Laws.{placed-room, placed-full, length-placed}
 use Rattle.netlist.specs.declared.Netlist.{Netlist}
 use Rattle.netlist.specs.declared.Place.{Place}
 use Rattle.netlist.specs.declared.Place.the-variants.{Whole, Line, Node, Edge}
 use Rattle.netlist.specs.declared.Answer.{Answer}
 use Rattle.netlist.specs.declared.Answer.the-variants.{Done, Refused}
-use Rattle.netlist.specs.Answer.{Says, value, refused, says, whole, andThen, needs}
+use Rattle.netlist.specs.Answer.{Said, value, refused, says, whole, andThen, needs}
 use Rattle.netlist.proofs.Fits.{clash}
 use Rattle.netlist.proofs.theorems.RoundTrip.{all-written}
 use Rattle.simulate.specs.Run.{clocks, runSays, Runs}
 use Rattle.simulate.specs.Clock.{inputs, outputs}
-use Rattle.simulate.specs.Step.{bits}
+use Rattle.simulate.specs.Step.{onlyBits}
 use Rattle.rules.specs.Rules.{every}
 use Rattle.show.specs.Shown.{refusalLine, lineIn}
 use Rattle.show.proofs.Printed.{counted, line-fits}
-use Rattle.show_run.specs.Printed.{digitLine, shownRun, Prints}
+use Rattle.show_run.specs.Printed.{digitLine, shownRun, PrintsRun}
 use Rattle.show_run.proofs.Digits.{length-digits}
 
 -- A run that says a number has had room for so many.
-says-room : (c : Says) (net : Netlist) (vectors : List ℕ) (m n : ℕ) → value n ≡ andThen c (runSays net vectors m) → n ≤ m
+says-room : (c : Said) (net : Netlist) (vectors : List ℕ) (m n : ℕ) → value n ≡ andThen c (runSays net vectors m) → n ≤ m
 unfolding runSays
 says-room (refused q k p) net vectors m n e = clash (cc)
-says-room (value i) net vectors m n e = go (every (eqb (length vectors % inputs net) 0 ∷ bits vectors ∷ [])) e
+says-room (value i) net vectors m n e = go (every (eqb (length vectors % inputs net) 0 ∷ onlyBits vectors ∷ [])) e
   where
     go : (b : Bool) → value n ≡ cond b (needs (clocks net vectors * outputs net) m) (whole 13) → n ≤ m
     go true q = let a = all-written (value 0) (clocks net vectors * outputs net) m n q in omega (arith, a .2, a .3)
@@ -50,14 +49,14 @@ module _ (t vectors old ran out : List ℕ) (a : Answer) (w : Runs t vectors old
       long : length (shownRun (says a) ran) ≡ n + 1
       long = ap (λ x. length (shownRun (says x) ran)) e ∙ length-digits ran out n (omega (arith, run-room))
 
-      pub prints-none : length out ≤ n → Prints t vectors old ran out 0 out × Counts 0 out
+      pub prints-none : length out ≤ n → PrintsRun t vectors old ran out 0 out × Counts 0 out
       prints-none h =
           let l = long in (
             record { said = says a; runs = w; result = rw (lt-leb (length (shownRun (says a) ran)) (length out) (omega arith)); buffer = sym (placed-full out 0 (shownRun (says a) ran) (omega arith)) },
             counted 0 out (omega arith),
           )
 
-      pub prints-digits : n < length out → (new : List ℕ) → new ≡ sets out 0 (digitLine (take n ran)) → Prints t vectors old ran out (n + 1) new × Counts (n + 1) new
+      pub prints-digits : n < length out → (new : List ℕ) → new ≡ sets out 0 (digitLine (take n ran)) → PrintsRun t vectors old ran out (n + 1) new × Counts (n + 1) new
       prints-digits h new b =
           let l = long in
           let s : digitLine (take n ran) ≡ shownRun (says a) ran = sym (ap (λ x. shownRun (says x) ran) e) in (
@@ -71,7 +70,7 @@ module _ (t vectors old ran out : List ℕ) (a : Answer) (w : Runs t vectors old
           )
 
   pub prints-refusal : (q : ℕ) (p : Place) → a ≡ Refused q p → (new : List ℕ) (n : ℕ) → new ≡ placed out 0 (refusalLine (says (Refused q p)))
-      → n ≡ lineIn (refusalLine (says (Refused q p))) out → Prints t vectors old ran out n new × Counts n new
+      → n ≡ lineIn (refusalLine (says (Refused q p))) out → PrintsRun t vectors old ran out n new × Counts n new
   prints-refusal q p e new n b r =
       let line = refusalLine (says (Refused q p)) in
       let s : line ≡ shownRun (says a) ran = sym (ap (λ x. shownRun (says x) ran) e ∙ shown-refused q p) in (

@@ -4,12 +4,12 @@ ghost use Prim.Native.Nat.{_≤_, _<_};
 ghost use lib.ListN.{length, take};
 ghost use lib.Seq.{sets};
 ghost use Rattle.io.specs.Counts.{Counts};
-ghost use Rattle.show_run.specs.Printed.{digitOf, digitLine, Prints};
+ghost use Rattle.show_run.specs.Printed.{bitDigit, digitLine, PrintsRun};
 use netlist::Answer;
 
 // The digit of a bit.
 fn digit(bit: u8) -> u8
-    ensures { λ r. ⌜ r ≡ digitOf bit ⌝ }
+    ensures { λ r. ⌜ r ≡ bitDigit bit ⌝ }
 {
     if bit == 0 { 48 } else { 49 }
 }
@@ -29,7 +29,7 @@ fn put_digits(bits: &[u8], n: usize, out: &mut [u8])
 
 // A text run on these vectors into `ran`, and what is printed of that at the front of `out`, where there is room for it; how many bytes it took.
 pub fn put_run(text: &[u8], vectors: &[u8], ran: &mut [u8], out: &mut [u8]) -> usize
-    ensures { λ r. ⌜ Prints (now (text .entry)) (now (vectors .entry)) (now (ran .entry)) (now (ran .exit)) (now (out .entry)) r (now (out .exit)) ⌝ }
+    ensures { λ r. ⌜ PrintsRun (now (text .entry)) (now (vectors .entry)) (now (ran .entry)) (now (ran .exit)) (now (out .entry)) r (now (out .exit)) ⌝ }
     ensures { λ r. ⌜ Counts r (now (out .exit)) ⌝ }
 {
     let a = simulate::run(text, vectors, ran);

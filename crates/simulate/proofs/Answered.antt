@@ -6,7 +6,6 @@
 --   runs-stop, runs-size, runs-byte, runs-short, runs-done    running stops at a refusal of 1 to 7, at 13 for either reason, at 12, or is done
 --   run-divisors        neither divisor is 0
 --   run-runnable, run-room    else its vectors are its clocks, and their outputs have room
--- Assumes nothing.
 use Prim.Native.Nat.{ℕ, _+_, _*_, _/_, _%_, _<_, _≤_}
 use native.Mathlib.Omega.{arith}
 use native.Mathlib.Nat.{div-add-mod', div-lt-iff-lt-mul, le-div-iff-mul-le}
@@ -29,9 +28,9 @@ use Rattle.netlist.specs.Write.{textOf}
 use Rattle.netlist.proofs.Fits.{clash, both}
 use Rattle.simulate.specs.declared.Machine.{Machine}
 use Rattle.simulate.specs.Clock.{inputs, outputs, outputValues, wordsAfter}
-use Rattle.simulate.specs.Step.{bits, wordsFit, stepSays, Steps}
+use Rattle.simulate.specs.Step.{onlyBits, wordsFit, stepSays, Steps}
 use Rattle.simulate.specs.Run.{clocksFrom, clocks, runSays, Runs}
-use Rattle.simulate.specs.Ran.{Runnable, wordsFrom, Ran}
+use Rattle.simulate.specs.inner.Ran.{Runnable, wordsFrom, Ran}
 use Rattle.simulate.proofs.Clock.{start-fits, words-fit, output-length, clocks-length}
 use Rattle.simulate.proofs.Ran.{reads-zero, reads-steppable}
 use Rattle.simulate.proofs.theorems.Pins.{has-pins}
@@ -50,13 +49,13 @@ reads-done {t} {net} a e r = subst (λ s. Reads t s net) (ap says e) r
 
 -- Rule 13 of stepping.
 abbrev stepFits : Netlist → List ℕ → List ℕ → Bool
-stepFits net words vector = every (eqb (length vector) (inputs net) ∷ bits vector ∷ wordsFit net words (net .edges) ∷ [])
+stepFits net words vector = every (eqb (length vector) (inputs net) ∷ onlyBits vector ∷ wordsFit net words (net .edges) ∷ [])
 
 step-facts : (net : Netlist) (words vector : List ℕ) → stepFits net words vector ≡ true
-    → (length vector ≡ inputs net) × (bits vector ≡ true) × (wordsFit net words (net .edges) ≡ true)
+    → (length vector ≡ inputs net) × (onlyBits vector ≡ true) × (wordsFit net words (net .edges) ≡ true)
 step-facts net words vector f =
     let a = both (eqb (length vector) (inputs net)) _ f in
-    let b = both (bits vector) _ (a .1) in
+    let b = both (onlyBits vector) _ (a .1) in
     (eqb-true (length vector) (inputs net) (a .0), b .0, both (wordsFit net words (net .edges)) true (b .1) .0)
 
 module _ (net : Netlist) (m : Machine) (vector old : List ℕ) (a : Answer) (same : Netlist) (check : Reads (textOf net) (says a) same) where
@@ -113,7 +112,7 @@ module _ (net : Netlist) (m : Machine) (vector old : List ℕ) (a : Answer) (sam
 
 -- Rule 13 of running.
 abbrev runFits : Netlist → List ℕ → Bool
-runFits net vectors = every (eqb (length vectors % inputs net) 0 ∷ bits vectors ∷ [])
+runFits net vectors = every (eqb (length vectors % inputs net) 0 ∷ onlyBits vectors ∷ [])
 
 module _ (t vectors old : List ℕ) (a : Answer) (net : Netlist) (reads : Reads t (says a) net) where
   pub runs-stop : {q : ℕ} {p : Place} → a ≡ Refused q p → Runs t vectors old (says a) old
@@ -138,10 +137,10 @@ module _ (t vectors old : List ℕ) (a : Answer) (net : Netlist) (reads : Reads 
       whole-test : eqb (length vectors % inputs net) 0 ≡ true
       whole-test = eq-eqb (length vectors % inputs net) 0 (ap (λ k. length vectors % k) (sym p) ∙ h)
 
-      pub runs-byte : bits vectors ≡ false → Runs t vectors old (whole 13) old
+      pub runs-byte : onlyBits vectors ≡ false → Runs t vectors old (whole 13) old
       runs-byte b = asked (rw (whole-test, b))
 
-      module _ (b : bits vectors ≡ true) where
+      module _ (b : onlyBits vectors ≡ true) where
         clocks-are : length vectors / i * o ≡ clocks net vectors * outputs net
         clocks-are = ap₂ (λ k l. length vectors / k * l) p q
 

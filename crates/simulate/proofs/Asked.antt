@@ -2,7 +2,6 @@
 --   bits-more, bits-stop, bits-end    a byte that is a bit; one that is not; no byte left
 --   fits-more, fits-stop    a word that fits; one that does not
 --   first-fails, second-fails, third-tells    three tests in turn
--- Assumes nothing.
 use Prim.Native.Nat.{ℕ, zero, suc, _+_, _^_, _<_, _≤_}
 use native.Mathlib.Omega.{arith}
 use native.Mathlib.Numerals.{add-one}
@@ -17,7 +16,7 @@ use borrow.Author.Tests.{le-leb, lt-leb}
 use Rattle.netlist.specs.declared.Netlist.{Netlist}
 use Rattle.netlist.specs.Net.{regsOf}
 use Rattle.rules.specs.Rules.{every}
-use Rattle.simulate.specs.Step.{bits, wordsFit}
+use Rattle.simulate.specs.Step.{onlyBits, wordsFit}
 
 module _ (a b c : Bool) where
   pub first-fails : a ≡ false → false ≡ every (a ∷ b ∷ c ∷ [])
@@ -31,16 +30,16 @@ third-tells a b true h k = rw (h, k)
 third-tells a b false h k = rw (h, k)
 
 module _ (l : List ℕ) (i : ℕ) where
-  pub bits-more : i < length l → getD l i 0 ≤ 1 → bits (drop i l) ≡ bits (drop (i + 1) l)
-  unfolding bits
+  pub bits-more : i < length l → getD l i 0 ≤ 1 → onlyBits (drop i l) ≡ onlyBits (drop (i + 1) l)
+  unfolding onlyBits
   bits-more h b = rw (add-one i, drop-cons l i 0 h, le-leb (getD l i 0) 1 b)
 
-  pub bits-stop : i < length l → 1 < getD l i 0 → bits (drop i l) ≡ false
-  unfolding bits
+  pub bits-stop : i < length l → 1 < getD l i 0 → onlyBits (drop i l) ≡ false
+  unfolding onlyBits
   bits-stop h b = rw (drop-cons l i 0 h, lt-leb (getD l i 0) 1 b)
 
-  pub bits-end : length l ≤ i → bits (drop i l) ≡ true
-  unfolding bits
+  pub bits-end : length l ≤ i → onlyBits (drop i l) ≡ true
+  unfolding onlyBits
   bits-end h = rw (drop-of-length-le l h)
 
 module _ (net : Netlist) (words : List ℕ) (e : ℕ) where

@@ -10,7 +10,6 @@
 --   fits-after          a clock leaves words that fit
 --   output-length       a clock puts out one byte for each output
 --   clocks-length       so do n clocks
--- Assumes nothing.
 use Prim.Native.Nat.{ℕ, zero, suc, _+_, _*_, _^_, _<_, _≤_}
 use native.Mathlib.Omega.{arith}
 use native.Mathlib.Decide.{ℕ-discrete}
@@ -23,8 +22,10 @@ use lib.Seq.{getD-drop}
 use borrow.Author.Tests.{eq-eqb, ne-eqb, ltb-true, lt-ltb}
 use Rattle.theory.specs.Graph.{Wired}
 use Rattle.theory.specs.Walk.{Loop}
-use Rattle.theory.specs.Clock.{gather, sees, Trace, SameRegs, value}
-use Rattle.theory.specs.Step.{shows, showsIf, holding, oneClock}
+use Rattle.theory.specs.Clock.{gather, sees, Trace, value}
+use Rattle.theory.specs.inner.Registers.{SameRegs}
+use Rattle.theory.specs.inner.Stepping.{edgeShows, showsIf}
+use Rattle.theory.specs.Step.{holding, oneClock}
 use Rattle.theory.specs.Gate.{gate}
 use Rattle.theory.proofs.clocks.Seen.{gather-same}
 use Rattle.theory.proofs.clocks.Trace.{unique}
@@ -37,8 +38,8 @@ use Rattle.netlist.specs.Net.{graphOf, regsOf}
 use Rattle.netlist.specs.Theorems.{Fit}
 use Rattle.netlist.proofs.Rows.{below-more}
 use Rattle.netlist.proofs.Fits.{both, edge-fits}
-use Rattle.simulate.specs.Clock.{before, inputs, outputs, byteOf, values, outputValues, moved-on, wordAfter, wordsAfter}
-use Rattle.simulate.specs.Step.{bits, wordsFit}
+use Rattle.simulate.specs.Clock.{earlier, inputs, outputs, inputByte, values, outputValues, shifted, wordAfter, wordsAfter}
+use Rattle.simulate.specs.Step.{onlyBits, wordsFit}
 use Rattle.simulate.specs.Run.{clocksFrom}
 use Rattle.simulate.proofs.Lists.{gather-length, rows-at, rows-past, bits-at}
 use Rattle.simulate.proofs.Words.{moved-fits}
@@ -50,15 +51,15 @@ abbrev pub bitsOf : List ℕ → ℕ → ℕ → ℕ
 bitsOf words e k = bit (getD words e 0) k
 
 abbrev pub shown : Netlist → List ℕ → (ℕ → ℕ) → ℕ → ℕ
-shown net words x e = shows (graphOf net) (regsOf net) (bitsOf words) x e
+shown net words x e = edgeShows (graphOf net) (regsOf net) (bitsOf words) x e
 
 module _ (net : Netlist) (words : List ℕ) (x : ℕ → ℕ) (e : ℕ) where
   pub shown-none : regsOf net .count e ≡ 0 → shown net words x e ≡ x (graphOf net .src e)
-  unfolding shows showsIf
+  unfolding edgeShows showsIf
   shown-none h = rw (eq-eqb (regsOf net .count e) 0 h)
 
   pub shown-some : 0 < regsOf net .count e → shown net words x e ≡ bit (getD words e 0) 0
-  unfolding shows showsIf
+  unfolding edgeShows showsIf
   shown-some h = rw (ne-eqb (regsOf net .count e) 0 (omega arith))
 
 -- ── Words that fit their edges' counts ──────────────────────────────────────────────────────
@@ -104,12 +105,12 @@ module _ (net : Netlist) (words vector : List ℕ) where
 
 module _ (net : Netlist) (wired : Wired (graphOf net)) (no-loop : ¬ Loop (graphOf net) (regsOf net .count)) where
   module _ (words vector : List ℕ) where
-    at-zero : Trace gate (graphOf net) (holding (regsOf net) (bitsOf words)) (λ u k. byteOf net vector u)
-        (value gate (graphOf net) (holding (regsOf net) (bitsOf words)) (λ u k. byteOf net vector u))
-    at-zero = value-trace gate (graphOf net) wired (holding (regsOf net) (bitsOf words)) no-loop (λ u k. byteOf net vector u)
+    at-zero : Trace gate (graphOf net) (holding (regsOf net) (bitsOf words)) (λ u k. inputByte net vector u)
+        (value gate (graphOf net) (holding (regsOf net) (bitsOf words)) (λ u k. inputByte net vector u))
+    at-zero = value-trace gate (graphOf net) wired (holding (regsOf net) (bitsOf words)) no-loop (λ u k. inputByte net vector u)
 
     -- The values of a clock are those at clock 0 of the trace whose start values are the words, so they fit; and at clock 0 an edge shows its source or bit 0.
-    pub value-input : (v : ℕ) → v < net .nodes → graphOf net .kind v ≡ 0 → values net words vector v ≡ byteOf net vector v
+    pub value-input : (v : ℕ) → v < net .nodes → graphOf net .kind v ≡ 0 → values net words vector v ≡ inputByte net vector v
     unfolding values oneClock
     value-input v h q = at-zero .at-input v 0 h q
 
@@ -120,11 +121,11 @@ module _ (net : Netlist) (wired : Wired (graphOf net)) (no-loop : ¬ Loop (graph
         at-zero .at-gate v 0 h q
         ∙ ap (gate (graphOf net .kind v)) (gather-same (graphOf net .dst) _ _ v (net .edges) (λ e l d. shows-first (graphOf net) (regsOf net) (bitsOf words) _ e))
 
-    pub value-bit : bits vector ≡ true → (v : ℕ) → v < net .nodes → values net words vector v ≤ 1
+    pub value-bit : onlyBits vector ≡ true → (v : ℕ) → v < net .nodes → values net words vector v ≤ 1
     value-bit b v h = go (ℕ-discrete (graphOf net .kind v) 0)
       where
         go : Dec (graphOf net .kind v ≡ 0) → values net words vector v ≤ 1
-        go (yes q) = omega (arith, value-input v h q, bits-at vector (before net 0 v) b)
+        go (yes q) = omega (arith, value-input v h q, bits-at vector (earlier net 0 v) b)
         go (no q) = omega (arith, value-gate v h q, gate-bit (graphOf net .kind v) (gather (graphOf net .dst) (shown net words (values net words vector)) v (net .edges)))
 
   -- ── The words, as far as they are looked at ─────────────────────────────────────────────────
@@ -145,10 +146,10 @@ module _ (net : Netlist) (wired : Wired (graphOf net)) (no-loop : ¬ Loop (graph
     output-same = gather-same (graphOf net .kind) (values net words vector) (values net words′ vector) 1 (net .nodes) (λ v h q. value-same v h)
 
     pub after-same : (e : ℕ) → e < net .edges → wordAfter net words vector e ≡ wordAfter net words′ vector e
-    after-same e h = ap₂ (moved-on (regsOf net .count e)) (same e h) (value-same (graphOf net .src e) (wired .src-in e h))
+    after-same e h = ap₂ (shifted (regsOf net .count e)) (same e h) (value-same (graphOf net .src e) (wired .src-in e h))
 
   -- The word moves down a bit and takes a bit at its top (`moved-fits`).
-  pub fits-after : (words vector : List ℕ) → bits vector ≡ true → Fits net words → Fits net (wordsAfter net words vector)
+  pub fits-after : (words vector : List ℕ) → onlyBits vector ≡ true → Fits net words → Fits net (wordsAfter net words vector)
   fits-after words vector b f e h =
       subst (λ word. word < 2 ^ regsOf net .count e) (sym (after-in net words vector e h))
       (moved-fits (getD words e 0) (values net words vector (graphOf net .src e)) (regsOf net .count e) (f e h) (value-bit words vector b (graphOf net .src e) (wired .src-in e h)))
@@ -156,7 +157,7 @@ module _ (net : Netlist) (wired : Wired (graphOf net)) (no-loop : ¬ Loop (graph
 -- ── What is put out ─────────────────────────────────────────────────────────────────────────
 
 pub output-length : (net : Netlist) (words vector : List ℕ) → length (outputValues net words vector) ≡ outputs net
-unfolding outputValues before
+unfolding outputValues earlier
 output-length net words vector = gather-length (graphOf net .kind) (values net words vector) (λ u. u) 1 (net .nodes)
 
 pub clocks-length : (net : Netlist) (n : ℕ) (words vectors : List ℕ) → length (clocksFrom net n words vectors) ≡ n * outputs net

@@ -2,7 +2,6 @@
 --   plan-evaluable, plan-truths    the columns of a plan can be evaluated; each node has a truth word of its kind
 --   Right, right-more          the signals of the inputs, of the plan's first n nodes and of the registers are right; one node more
 --   right-values               after all of them, each node's signal is its value
--- Assumes nothing.
 use Prim.Native.Nat.{ℕ, zero, suc, _+_, _<_, _≤_}
 use native.Mathlib.Omega.{arith}
 use native.Mathlib.Decide.{ℕ-discrete}
@@ -17,14 +16,14 @@ use borrow.Author.Tests.{eq-eqb, ne-eqb}
 use Rattle.theory.specs.Gate.{gate}
 use Rattle.theory.proofs.clocks.Seen.{gather-same}
 use Rattle.graph.specs.Columns.{at, bit}
-use Rattle.gates.specs.Gates.{part, AllBits, evaluated, Placed, Evaluable, Truths}
+use Rattle.gates.specs.inner.Gates.{part, AllBits, evaluated, GateRows, Evaluable, Truths}
 use Rattle.gates.proofs.Row.{evaluated-length}
 use Rattle.netlist.specs.declared.Netlist.{Netlist}
 use Rattle.netlist.proofs.Run.{fit-wired, fit-rows}
 use Rattle.simulate.specs.declared.plan.Plan.{Plan}
 use Rattle.simulate.specs.Clock.{values}
-use Rattle.simulate.specs.Plan.{signal, Planned}
-use Rattle.simulate.specs.Ran.{Steppable}
+use Rattle.simulate.specs.inner.Plan.{signal, Planned}
+use Rattle.simulate.specs.inner.Ran.{Steppable}
 use Rattle.simulate.proofs.Lists.{gather-map}
 use Rattle.simulate.proofs.Clock.{shown, shown-none, shown-some, value-gate}
 
@@ -46,7 +45,7 @@ module _ (net : Netlist) (p : Plan) (plan : Planned net p) (ok : Steppable net) 
       go true = omega (arith, fit-wired net (ok .fit) .src-in e h, fit-rows net (ok .fit) .0)
       go false = omega (arith, fit-rows net (ok .fit) .1)
 
-  node-placed : Rows p → (v : ℕ) → v < net .nodes → Placed (p .truth) (p .first) (p .sees) 0 1536 v
+  node-placed : Rows p → (v : ℕ) → v < net .nodes → GateRows (p .truth) (p .first) (p .sees) 0 1536 v
   node-placed rows v h =
       let r = plan .range v h in
       let n = fit-rows net (ok .fit) in record {
@@ -63,7 +62,7 @@ module _ (net : Netlist) (p : Plan) (plan : Planned net p) (ok : Steppable net) 
   plan-evaluable rows sig size bits = record {
     table = plan .table;
     in-node = omega (arith, plan .few, rows .node);
-    placed = λ i h. subst (λ n. Placed (p .truth) (p .first) (p .sees) 0 n (at (p .node) i)) (sym size) (node-placed rows (at (p .node) i) (plan .gate i h .0));
+    placed = λ i h. subst (λ n. GateRows (p .truth) (p .first) (p .sees) 0 n (at (p .node) i)) (sym size) (node-placed rows (at (p .node) i) (plan .gate i h .0));
     bits = bits;
   }
 

@@ -2,7 +2,6 @@
 --   kept-none           no place of the order yet
 --   kept-hit            one place further: its node is put at the end
 --   kept-miss           one place further: an input is left out
--- Assumes nothing.
 use Prim.Native.Nat.{ℕ, suc, _+_, _≤_, _<_}
 use native.Mathlib.Omega.{arith}
 use native.Mathlib.Numerals.{add-one}
@@ -12,8 +11,8 @@ use mathlib.Core.List.{List}
 use lib.ListN.{length, set}
 use lib.Seq.{getD-set-same, getD-set-other}
 use Rattle.graph.specs.Columns.{at}
-use Rattle.graph.specs.Sort.{Stands}
-use Rattle.simulate.specs.Parts.{Kept, KeptAt}
+use Rattle.graph.specs.inner.Sort.{Stands}
+use Rattle.simulate.specs.inner.Parts.{Kept, KeptAt}
 
 -- A store at n changes nothing below n.
 set-stands : (xs : List ℕ) (n x m i : ℕ) → m ≤ n → Stands xs m i → Stands (set xs n x) m i

@@ -9,7 +9,6 @@
 --   rows-length, rows-at, rows-past    n rows of one number each, and what stands past them
 --   bits-at, bits-take, bits-drop    a member of a list of bits is 0 or 1; its parts are lists of bits
 --   bits-append, bits-gather    so are two in a row, and gathered bits
--- Assumes nothing.
 use Prim.Native.Nat.{ℕ, zero, suc, _+_, _-_, _<_, _≤_}
 use native.Mathlib.Omega.{arith}
 use native.Mathlib.Decide.{ℕ-discrete}
@@ -26,8 +25,8 @@ use Rattle.netlist.specs.Net.{graphOf}
 use Rattle.netlist.specs.Write.{joined}
 use Rattle.netlist.proofs.Rows.{joined-split}
 use Rattle.netlist.proofs.Fits.{both}
-use Rattle.simulate.specs.Clock.{before}
-use Rattle.simulate.specs.Step.{bits}
+use Rattle.simulate.specs.Clock.{earlier}
+use Rattle.simulate.specs.Step.{onlyBits}
 
 -- ── Gathered ────────────────────────────────────────────────────────────────────────────────
 
@@ -70,20 +69,20 @@ gather-length kind f g k (suc n) = go (ℕ-discrete (kind n) k) (gather-length k
     go (no q) e = rw (gather-miss kind f k n q, gather-miss kind g k n q) e
 
 module _ (net : Netlist) (k : ℕ) where
-  pub before-hit : (v : ℕ) → graphOf net .kind v ≡ k → before net k (suc v) ≡ suc (before net k v)
-  unfolding before
+  pub before-hit : (v : ℕ) → graphOf net .kind v ≡ k → earlier net k (suc v) ≡ suc (earlier net k v)
+  unfolding earlier
   before-hit v q = ap length (gather-hit (graphOf net .kind) (λ u. u) k v q) ∙ simp length-append (omega arith)
 
-  pub before-miss : (v : ℕ) → ¬ (graphOf net .kind v ≡ k) → before net k (suc v) ≡ before net k v
-  unfolding before
+  pub before-miss : (v : ℕ) → ¬ (graphOf net .kind v ≡ k) → earlier net k (suc v) ≡ earlier net k v
+  unfolding earlier
   before-miss v q = ap length (gather-miss (graphOf net .kind) (λ u. u) k v q)
 
-  pub before-less : (v n : ℕ) → graphOf net .kind v ≡ k → v < n → before net k v < before net k n
+  pub before-less : (v n : ℕ) → graphOf net .kind v ≡ k → v < n → earlier net k v < earlier net k n
   before-less v zero q h = absurd (omega arith)
   before-less v (suc n) q h = go (ℕ-discrete v n) (ℕ-discrete (graphOf net .kind n) k) (before-less v n q)
     where
-      go : Dec (v ≡ n) → Dec (graphOf net .kind n ≡ k) → (v < n → before net k v < before net k n) → before net k v < before net k (suc n)
-      go (yes e) d less = omega (arith, before-hit v q, ap (λ i. before net k (suc i)) e)
+      go : Dec (v ≡ n) → Dec (graphOf net .kind n ≡ k) → (v < n → earlier net k v < earlier net k n) → earlier net k v < earlier net k (suc n)
+      go (yes e) d less = omega (arith, before-hit v q, ap (λ i. earlier net k (suc i)) e)
       go (no e) (yes p) less = omega (arith, before-hit n p, less (omega arith))
       go (no e) (no p) less = omega (arith, before-miss n p, less (omega arith))
 
@@ -116,34 +115,34 @@ module _ (f : ℕ → ℕ) where
 
 -- ── Bits ────────────────────────────────────────────────────────────────────────────────────
 
-pub bits-at : (l : List ℕ) (i : ℕ) → bits l ≡ true → getD l i 0 ≤ 1
-unfolding bits
+pub bits-at : (l : List ℕ) (i : ℕ) → onlyBits l ≡ true → getD l i 0 ≤ 1
+unfolding onlyBits
 bits-at [] i h = omega arith
-bits-at (b ∷ l) zero h = leb-true b 1 (both (leb b 1) (bits l) h .0)
-bits-at (b ∷ l) (suc i) h = bits-at l i (both (leb b 1) (bits l) h .1)
+bits-at (b ∷ l) zero h = leb-true b 1 (both (leb b 1) (onlyBits l) h .0)
+bits-at (b ∷ l) (suc i) h = bits-at l i (both (leb b 1) (onlyBits l) h .1)
 
-pub bits-take : (n : ℕ) (l : List ℕ) → bits l ≡ true → bits (take n l) ≡ true
-unfolding bits
+pub bits-take : (n : ℕ) (l : List ℕ) → onlyBits l ≡ true → onlyBits (take n l) ≡ true
+unfolding onlyBits
 bits-take zero l h = refl
 bits-take (suc n) [] h = refl
-bits-take (suc n) (b ∷ l) h = let p = both (leb b 1) (bits l) h in rw (p .0) (bits-take n l (p .1))
+bits-take (suc n) (b ∷ l) h = let p = both (leb b 1) (onlyBits l) h in rw (p .0) (bits-take n l (p .1))
 
-pub bits-drop : (n : ℕ) (l : List ℕ) → bits l ≡ true → bits (drop n l) ≡ true
-unfolding bits
+pub bits-drop : (n : ℕ) (l : List ℕ) → onlyBits l ≡ true → onlyBits (drop n l) ≡ true
+unfolding onlyBits
 bits-drop zero l h = h
 bits-drop (suc n) [] h = refl
-bits-drop (suc n) (b ∷ l) h = bits-drop n l (both (leb b 1) (bits l) h .1)
+bits-drop (suc n) (b ∷ l) h = bits-drop n l (both (leb b 1) (onlyBits l) h .1)
 
-pub bits-append : (l m : List ℕ) → bits l ≡ true → bits m ≡ true → bits (l ++ m) ≡ true
-unfolding bits
+pub bits-append : (l m : List ℕ) → onlyBits l ≡ true → onlyBits m ≡ true → onlyBits (l ++ m) ≡ true
+unfolding onlyBits
 bits-append [] m h k = k
-bits-append (b ∷ l) m h k = let p = both (leb b 1) (bits l) h in rw (p .0) (bits-append l m (p .1) k)
+bits-append (b ∷ l) m h k = let p = both (leb b 1) (onlyBits l) h in rw (p .0) (bits-append l m (p .1) k)
 
-pub bits-gather : (kind f : ℕ → ℕ) (k n : ℕ) → ((i : ℕ) → i < n → kind i ≡ k → f i ≤ 1) → bits (gather kind f k n) ≡ true
-unfolding bits gather
+pub bits-gather : (kind f : ℕ → ℕ) (k n : ℕ) → ((i : ℕ) → i < n → kind i ≡ k → f i ≤ 1) → onlyBits (gather kind f k n) ≡ true
+unfolding onlyBits gather
 bits-gather kind f k zero h = refl
 bits-gather kind f k (suc n) h = go (ℕ-discrete (kind n) k) (bits-gather kind f k n (λ i l. h i (omega arith)))
   where
-    go : Dec (kind n ≡ k) → bits (gather kind f k n) ≡ true → bits (gather kind f k (suc n)) ≡ true
+    go : Dec (kind n ≡ k) → onlyBits (gather kind f k n) ≡ true → onlyBits (gather kind f k (suc n)) ≡ true
     go (yes q) e = rw (gather-hit kind f k n q) (bits-append (gather kind f k n) (f n ∷ []) e (rw (le-leb (f n) 1 (h n (omega arith) q))))
     go (no q) e = rw (gather-miss kind f k n q) e

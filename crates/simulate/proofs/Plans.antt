@@ -3,7 +3,6 @@
 --   kind-low            a gate kind is at most 9
 --   fan-low             no node sees more than 8 signals
 --   planned             the parts make a plan
--- Assumes nothing.
 use Prim.Native.Nat.{ℕ, suc, _+_, _-_, _≤_, _<_}
 use native.Mathlib.Omega.{arith}
 use native.Mathlib.Decide.{ℕ-discrete}
@@ -13,33 +12,32 @@ use mathlib.Core.Bool.{Bool, true, false, cond}
 use mathlib.Core.List.{List}
 use lib.Dec.{ltb}
 use lib.ListN.{length}
-use Rattle.theory.specs.Walk.{Walk, one, more, registers, steps, Loop}
-use Rattle.graph.specs.Columns.{at, graph, fan-in}
-use Rattle.graph.specs.Sort.{Sorts, Ordered}
-use Rattle.gates.specs.Gates.{Reckons, Table}
+use Rattle.theory.specs.Walk.{Walk, one, more, registers, walkSteps, Loop}
+use Rattle.graph.specs.Columns.{at, columnGraph, fan-in}
+use Rattle.graph.specs.inner.Sort.{Sorts, Ordered}
+use Rattle.gates.specs.inner.Gates.{Reckons, Table}
 use Rattle.netlist.specs.declared.Netlist.{Netlist}
 use Rattle.netlist.specs.Net.{graphOf}
 use Rattle.rules.specs.Rules.{ruleOf}
-use Rattle.netlist.specs.Read.{FanIn}
-use Rattle.netlist.specs.Read.{All}
+use Rattle.netlist.specs.Read.{FanInFits, All}
 use Rattle.netlist.specs.Theorems.{Fit}
 use Rattle.netlist.proofs.Fits.{node-fits}
 use Rattle.netlist.proofs.Lowest.{few}
 use Rattle.simulate.specs.declared.plan.Plan.{Plan}
-use Rattle.simulate.specs.Plan.{signal, Planned}
-use Rattle.simulate.specs.Parts.{Kept}
+use Rattle.simulate.specs.inner.Plan.{signal, Planned}
+use Rattle.simulate.specs.inner.Parts.{Kept}
 use Rattle.simulate.proofs.Seen.{ins-edge, first-rises, first-low, seen-signals}
 
 -- ── Loops ───────────────────────────────────────────────────────────────────────────────────
 
 module _ (n m : ℕ) (k k′ from to : List ℕ) (count : ℕ → ℕ) where
-  walk-kinds : {u v : ℕ} → (p : Walk (graph n m k from to) u v)
-      → (q : Walk (graph n m k′ from to) u v) × (steps q ≡ steps p) × (registers count q ≡ registers count p)
-  unfolding steps registers
+  walk-kinds : {u v : ℕ} → (p : Walk (columnGraph n m k from to) u v)
+      → (q : Walk (columnGraph n m k′ from to) u v) × (walkSteps q ≡ walkSteps p) × (registers count q ≡ registers count p)
+  unfolding walkSteps registers
   walk-kinds (one h) = (one h, refl, refl)
   walk-kinds (more e h p) = let w = walk-kinds p in (more e h (w .0), ap suc (w .1), ap (λ r. r + count e) (w .2))
 
-  pub loop-kinds : Loop (graph n m k from to) count → Loop (graph n m k′ from to) count
+  pub loop-kinds : Loop (columnGraph n m k from to) count → Loop (columnGraph n m k′ from to) count
   loop-kinds l =
       let w = walk-kinds (l .walk) in
       record { node = l .node; walk = w .0; moves = omega (arith, l .moves, w .1); bare = w .2 ∙ l .bare }
@@ -49,7 +47,7 @@ module _ (n m : ℕ) (k k′ from to : List ℕ) (count : ℕ → ℕ) where
 pub kind-low : (net : Netlist) → Fit net → (v : ℕ) → v < net .nodes → at (net .kind) v < 10
 kind-low net f v h = omega (arith, node-fits (at (net .kind) v) (at (net .delay) v) (f .node v h) .0)
 
-pub fan-low : (net : Netlist) → All (FanIn (graphOf net)) (net .nodes) → (v : ℕ) → v < net .nodes → fan-in (graphOf net) v ≤ 8
+pub fan-low : (net : Netlist) → All (FanInFits (graphOf net)) (net .nodes) → (v : ℕ) → v < net .nodes → fan-in (graphOf net) v ≤ 8
 unfolding ruleOf
 fan-low net fan v h = go (ltb (at (net .kind) v) 1) (ltb (at (net .kind) v) 4) (fan v h .1)
   where

@@ -6,7 +6,6 @@
 --   clock-size, clock-bits    its signals are as many as before, and bits
 --   Running, running-start, running-turn, running-end    the loop
 --   vector-in, outputs-in, room-in, begun-bits    what each turn finds
--- Assumes nothing.
 use Prim.Native.Nat.{ℕ, suc, _+_, _-_, _*_, _<_, _≤_}
 use native.Mathlib.Omega.{arith}
 use native.Mathlib.Nat.{suc-mul, mul-le-mul-right}
@@ -20,7 +19,7 @@ use Rattle.frame.proofs.Laws.{sets-sets}
 use Rattle.theory.specs.Clock.{gather}
 use Rattle.theory.proofs.clocks.Seen.{gather-same}
 use Rattle.graph.specs.Columns.{at}
-use Rattle.gates.specs.Gates.{AllBits, evaluated}
+use Rattle.gates.specs.inner.Gates.{AllBits, evaluated}
 use Rattle.gates.proofs.Row.{evaluated-length, evaluated-bits}
 use Rattle.netlist.specs.declared.Netlist.{Netlist}
 use Rattle.netlist.specs.Answer.{value}
@@ -33,12 +32,12 @@ use Rattle.netlist.proofs.theorems.Lines.{lines-fact}
 use Rattle.netlist.proofs.theorems.Refusals.{none-fact}
 use Rattle.netlist.proofs.theorems.Sound.{reads-value}
 use Rattle.simulate.specs.declared.plan.Plan.{Plan}
-use Rattle.simulate.specs.Clock.{before, inputs, outputs, byteOf, values, outputValues, moved-on, wordsAfter}
-use Rattle.simulate.specs.Step.{bits}
+use Rattle.simulate.specs.Clock.{earlier, inputs, outputs, inputByte, values, outputValues, shifted, wordsAfter}
+use Rattle.simulate.specs.Step.{onlyBits}
 use Rattle.simulate.specs.Run.{clocksFrom}
-use Rattle.simulate.specs.Plan.{Planned}
-use Rattle.simulate.specs.Signals.{Begun, movedOn, Movable}
-use Rattle.simulate.specs.Ran.{Steppable, Runnable, wordsFrom, Ran}
+use Rattle.simulate.specs.inner.Plan.{Planned}
+use Rattle.simulate.specs.inner.Signals.{SignalsSet, shiftedTo, Movable}
+use Rattle.simulate.specs.inner.Ran.{Steppable, Runnable, wordsFrom, Ran}
 use Rattle.simulate.proofs.Lists.{before-less, bits-at, bits-take, bits-drop}
 use Rattle.simulate.proofs.Clock.{Fits, fit-words, fits-after, value-input, output-length}
 use Rattle.simulate.proofs.Signals.{moved-length}
@@ -84,16 +83,16 @@ pub record State : Type 0 where
 pub record Clocked (net : Netlist) (p : Plan) (vectors : List ℕ) (taken given : ℕ) (s s′ : State) : Type 0 where
   pub begun : List ℕ
   pub size : length begun ≡ 1536
-  pub begins : Begun (net .kind) (net .nodes) (s .words) (net .edges) vectors taken (s .sig) begun
+  pub begins : SignalsSet (net .kind) (net .nodes) (s .words) (net .edges) vectors taken (s .sig) begun
   pub evaluates : s′ .sig ≡ evaluated (net .kind) (p .node) (p .first) (p .sees) 0 (p .gates) begun
   pub puts : s′ .out ≡ sets (s .out) given (gather (at (net .kind)) (at (s′ .sig)) 1 (net .nodes))
-  pub moves : s′ .words ≡ movedOn (net .from) (net .count) (s′ .sig) (s .words) (net .edges)
+  pub moves : s′ .words ≡ shiftedTo (net .from) (net .count) (s′ .sig) (s .words) (net .edges)
 
 module _ (net : Netlist) (p : Plan) (plan : Planned net p) (ok : Steppable net) (vector : List ℕ) {vectors : List ℕ} {taken given : ℕ} {s s′ : State}
-    (bytes : (v : ℕ) → v < net .nodes → at (net .kind) v ≡ 0 → at vectors (taken + before net 0 v) ≡ byteOf net vector v)
+    (bytes : (v : ℕ) → v < net .nodes → at (net .kind) v ≡ 0 → at vectors (taken + earlier net 0 v) ≡ inputByte net vector v)
     (c : Clocked net p vectors taken given s s′) where
   starts : Right net p plan ok (s .words) vector (c .begun) 0
-  unfolding before
+  unfolding earlier
   starts = record {
     inputs = λ v h q. c .begins .enters .inputs v h q ∙ bytes v h q ∙ sym (value-input net (fit-wired net (ok .fit)) (ok .no-loop) (s .words) vector v h q);
     done = λ i h. absurd (let y : ⊥ = omega arith in y);
@@ -108,12 +107,12 @@ module _ (net : Netlist) (p : Plan) (plan : Planned net p) (ok : Steppable net) 
   clock-puts = c .puts ∙ ap (sets (s .out) given) (gather-same (at (net .kind)) (at (s′ .sig)) (values net (s .words) vector) 1 (net .nodes) (λ v h q. ends v h))
 
   pub clock-leaves : s′ .words ≡ wordsAfter net (s .words) vector
-  unfolding wordsAfter movedOn
+  unfolding wordsAfter shiftedTo
   clock-leaves =
       c .moves
       ∙ ap (λ l. l ++ drop (net .edges) (s .words))
       (joined-same _ _ (net .edges)
-      (λ e h. ap (λ x. moved-on (at (net .count) e) (at (s .words) e) x ∷ []) (ends (at (net .from) e) (fit-wired net (ok .fit) .src-in e h))))
+      (λ e h. ap (λ x. shifted (at (net .count) e) (at (s .words) e) x ∷ []) (ends (at (net .from) e) (fit-wired net (ok .fit) .src-in e h))))
 
   pub clock-size : length (s′ .sig) ≡ 1536
   clock-size = ap length (c .evaluates) ∙ evaluated-length (net .kind) (p .node) (p .first) (p .sees) 0 (c .begun) (p .gates) ∙ c .size
@@ -187,17 +186,17 @@ module _ (net : Netlist) (n : ℕ) (words₀ vectors old : List ℕ) (ask : Runn
     room-in = omega (arith, outputs-in, ap length (r .puts), length-sets old 0 (r .done))
 
     -- A clock begins: its signals are bits.
-    pub begun-bits : (begun : List ℕ) → Begun (net .kind) (net .nodes) (s .words) (net .edges) vectors taken (s .sig) begun → AllBits begun
+    pub begun-bits : (begun : List ℕ) → SignalsSet (net .kind) (net .nodes) (s .words) (net .edges) vectors taken (s .sig) begun → AllBits begun
     begun-bits begun b = b .enters .bits (λ k. bits-at vectors k (ask .vector-bits)) (r .sig-bits)
 
     abbrev vector : List ℕ
     vector = take (inputs net) (drop taken vectors)
 
-    vector-bits : bits vector ≡ true
+    vector-bits : onlyBits vector ≡ true
     vector-bits = bits-take (inputs net) (drop taken vectors) (bits-drop taken vectors (ask .vector-bits))
 
-    bytes : (v : ℕ) → v < net .nodes → at (net .kind) v ≡ 0 → at vectors (taken + before net 0 v) ≡ byteOf net vector v
-    bytes v l q = sym (getD-take (inputs net) (drop taken vectors) (before net 0 v) 0 (before-less net 0 v (net .nodes) q l) ∙ getD-drop taken vectors (before net 0 v) 0)
+    bytes : (v : ℕ) → v < net .nodes → at (net .kind) v ≡ 0 → at vectors (taken + earlier net 0 v) ≡ inputByte net vector v
+    bytes v l q = sym (getD-take (inputs net) (drop taken vectors) (earlier net 0 v) 0 (before-less net 0 v (net .nodes) q l) ∙ getD-drop taken vectors (earlier net 0 v) 0)
 
     module _ (p : Plan) (plan : Planned net p) where
       pub running-turn : (taken′ given′ : ℕ) → taken′ ≡ taken + inputs net → given′ ≡ given + outputs net → (s′ : State) → Clocked net p vectors taken given s s′

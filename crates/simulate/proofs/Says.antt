@@ -1,7 +1,6 @@
 -- Steps and runs that are not refused: 13 and 12 in facts.
 --   StepGoes, step-goes, step-says    a step is not refused, in facts; the same from what it says, and back
 --   RunGoes, run-goes                 so of a run
--- Assumes nothing.
 use Prim.Native.Nat.{ℕ, _*_, _%_, _≤_}
 use native.Mathlib.Omega.{arith}
 use native.Mathlib.Nat.{div-add-mod'}
@@ -16,7 +15,7 @@ use Rattle.netlist.specs.Answer.{value, whole, needs}
 use Rattle.rules.specs.Rules.{every}
 use Rattle.netlist.proofs.Fits.{clash, both}
 use Rattle.simulate.specs.Clock.{inputs, outputs}
-use Rattle.simulate.specs.Step.{bits, wordsFit, stepSays}
+use Rattle.simulate.specs.Step.{onlyBits, wordsFit, stepSays}
 use Rattle.simulate.specs.Run.{clocks, runSays}
 
 -- The number that is given was to be written, there is room for it, and the test held.
@@ -31,7 +30,7 @@ said false n room o q = clash (cc)
 -- A step that is not refused: "one vector", of bits, and no "machine word with a bit at or above its edge's count".
 pub record StepGoes (net : Netlist) (words vector : List ℕ) (room o : ℕ) : Type 0 where
   pub one-vector : length vector ≡ inputs net
-  pub vector-bits : bits vector ≡ true
+  pub vector-bits : onlyBits vector ≡ true
   pub words-fit : wordsFit net words (net .edges) ≡ true
   pub number : o ≡ outputs net
   pub has-room : outputs net ≤ room
@@ -39,9 +38,9 @@ pub record StepGoes (net : Netlist) (words vector : List ℕ) (room o : ℕ) : T
 pub step-goes : (net : Netlist) (words vector : List ℕ) (room o : ℕ) → value o ≡ stepSays net words vector room → StepGoes net words vector room o
 unfolding stepSays
 step-goes net words vector room o q =
-    let s = said (every (eqb (length vector) (inputs net) ∷ bits vector ∷ wordsFit net words (net .edges) ∷ [])) (outputs net) room o q in
+    let s = said (every (eqb (length vector) (inputs net) ∷ onlyBits vector ∷ wordsFit net words (net .edges) ∷ [])) (outputs net) room o q in
     let a = both (eqb (length vector) (inputs net)) _ (s .0) in
-    let b = both (bits vector) _ (a .1) in
+    let b = both (onlyBits vector) _ (a .1) in
     let c = both (wordsFit net words (net .edges)) true (b .1) in
     record { one-vector = eqb-true (length vector) (inputs net) (a .0); vector-bits = b .0; words-fit = c .0; number = s .1; has-room = s .2 }
 
@@ -54,7 +53,7 @@ step-says net words vector room o g =
 -- A run that is not refused: its bytes are whole vectors, of bits.
 pub record RunGoes (net : Netlist) (vectors : List ℕ) (room o : ℕ) : Type 0 where
   pub whole-vectors : length vectors ≡ clocks net vectors * inputs net
-  pub vector-bits : bits vectors ≡ true
+  pub vector-bits : onlyBits vectors ≡ true
   pub number : o ≡ clocks net vectors * outputs net
   pub has-room : clocks net vectors * outputs net ≤ room
 
@@ -63,7 +62,7 @@ unfolding runSays
 run-goes net vectors room o q =
     let n = length vectors in
     let i = inputs net in
-    let s = said (every (eqb (n % i) 0 ∷ bits vectors ∷ [])) (clocks net vectors * outputs net) room o q in
+    let s = said (every (eqb (n % i) 0 ∷ onlyBits vectors ∷ [])) (clocks net vectors * outputs net) room o q in
     let a = both (eqb (n % i) 0) _ (s .0) in
-    let b = both (bits vectors) true (a .1) in
+    let b = both (onlyBits vectors) true (a .1) in
     record { whole-vectors = omega (arith, div-add-mod' n i, eqb-true (n % i) 0 (a .0)); vector-bits = b .0; number = s .1; has-room = s .2 }

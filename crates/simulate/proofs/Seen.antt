@@ -4,7 +4,6 @@
 --   first-low           and no part begins past the edges
 --   seen-count          a node's part is as long as its fan-in
 --   seen-signals        the signals of a node's part, in the order of the edges
--- Assumes nothing.
 use Prim.Native.Nat.{ℕ, zero, suc, _+_, _-_, _≤_, _<_}
 use native.Mathlib.Omega.{arith}
 use mathlib.Core.Path.{_≡_, refl, ap, ap₂, _∙_}
@@ -13,9 +12,9 @@ use lib.ListN.{length, take, drop, length-append}
 use lib.Seq.{drop-cons}
 use Rattle.theory.specs.Clock.{gather}
 use Rattle.graph.specs.Columns.{at, fan-in}
-use Rattle.graph.specs.Sort.{group, sorted, Sorts}
+use Rattle.graph.specs.inner.Sort.{group, sorted, Sorts}
 use Rattle.graph.proofs.Sorted.{sorted-place, sorted-grows, sorted-part, sorted-room, sorted-length, sets-at}
-use Rattle.gates.specs.Gates.{part}
+use Rattle.gates.specs.inner.Gates.{part}
 use Rattle.netlist.specs.declared.Netlist.{Netlist}
 use Rattle.netlist.specs.Net.{graphOf}
 use Rattle.netlist.specs.Theorems.{Fit}

@@ -5,7 +5,6 @@
 --   begun               the registers shown, with the inputs entered
 --   Putting, putting-start, putting-length, putting-hit, putting-miss    so for the outputs
 --   moved-start, moved-length, moved-at, moved-more    of no word; as many words; those still to be moved; one word more
--- Assumes nothing.
 use Prim.Native.Nat.{ℕ, zero, suc, _+_, _%_, _<_, _≤_}
 use native.Mathlib.Omega.{arith}
 use native.Mathlib.Nat.{div-one}
@@ -20,17 +19,17 @@ use Rattle.theory.specs.Clock.{gather}
 use Rattle.graph.specs.Columns.{at, bit}
 use Rattle.gates.proofs.Row.{bits-set}
 use Rattle.netlist.specs.Write.{joined}
-use Rattle.simulate.specs.Clock.{moved-on}
-use Rattle.simulate.specs.Signals.{among, Entered, Shown, Begun, moved, movedOn}
+use Rattle.simulate.specs.Clock.{shifted}
+use Rattle.simulate.specs.inner.Signals.{among, Entered, RegistersShown, SignalsSet, shiftedAt, shiftedTo}
 use Rattle.simulate.proofs.Lists.{gather-hit, gather-miss, gather-length, rows-length}
 
 -- ── What the registers show ─────────────────────────────────────────────────────────────────
 
-pub shown-start : (words sig : List ℕ) → Shown words 0 sig sig
+pub shown-start : (words sig : List ℕ) → RegistersShown words 0 sig sig
 shown-start words sig = record { shows = λ e h. absurd (let y : ⊥ = omega arith in y); stays = λ v h. refl; bits = λ b. b }
 
-pub shown-more : (words : List ℕ) (e : ℕ) (sig₀ sig : List ℕ) → 512 + e < length sig → Shown words e sig₀ sig
-    → Shown words (e + 1) sig₀ (set sig (512 + e) (at words e % 2))
+pub shown-more : (words : List ℕ) (e : ℕ) (sig₀ sig : List ℕ) → 512 + e < length sig → RegistersShown words e sig₀ sig
+    → RegistersShown words (e + 1) sig₀ (set sig (512 + e) (at words e % 2))
 shown-more words e sig₀ sig h s = record {
   shows = λ k l. go k l (ℕ-discrete k e);
   stays = λ v l. getD-set-other sig (512 + e) v (at words e % 2) 0 (let z : ¬ (v ≡ 512 + e) = λ q. omega arith in z) ∙ s .stays v l;
@@ -139,7 +138,7 @@ module _ (kind sig old : List ℕ) (at0 : ℕ) where
 
 -- The inputs' places are not the registers'.
 pub begun : (kind : List ℕ) (nodes : ℕ) (words : List ℕ) (edges : ℕ) (vectors : List ℕ) (at0 : ℕ) {sig mid sig′ : List ℕ} → nodes ≤ 512
-    → Entered kind nodes vectors at0 sig mid → Shown words edges mid sig′ → Begun kind nodes words edges vectors at0 sig sig′
+    → Entered kind nodes vectors at0 sig mid → RegistersShown words edges mid sig′ → SignalsSet kind nodes words edges vectors at0 sig sig′
 begun kind nodes words edges vectors at0 few e s = record {
   enters = record { inputs = λ v h q. s .stays v (omega arith) ∙ e .inputs v h q; bits = λ b t. s .bits (e .bits b t) };
   shows = s .shows;
@@ -148,31 +147,31 @@ begun kind nodes words edges vectors at0 few e s = record {
 -- ── The words ───────────────────────────────────────────────────────────────────────────────
 
 module _ (from count sig words : List ℕ) where
-  rows : (n : ℕ) → length (joined (moved from count sig words) n) ≡ n
-  rows n = rows-length (λ e. moved-on (at count e) (at words e) (at sig (at from e))) n
+  rows : (n : ℕ) → length (joined (shiftedAt from count sig words) n) ≡ n
+  rows n = rows-length (λ e. shifted (at count e) (at words e) (at sig (at from e))) n
 
-  pub moved-start : movedOn from count sig words 0 ≡ words
-  unfolding movedOn joined
+  pub moved-start : shiftedTo from count sig words 0 ≡ words
+  unfolding shiftedTo joined
   moved-start = refl
 
-  pub moved-length : (n : ℕ) → n ≤ length words → length (movedOn from count sig words n) ≡ length words
-  unfolding movedOn
-  moved-length n h = length-append (joined (moved from count sig words) n) (drop n words) ∙ omega (arith, rows n, length-drop n words)
+  pub moved-length : (n : ℕ) → n ≤ length words → length (shiftedTo from count sig words n) ≡ length words
+  unfolding shiftedTo
+  moved-length n h = length-append (joined (shiftedAt from count sig words) n) (drop n words) ∙ omega (arith, rows n, length-drop n words)
 
   -- The words from the n-th on are as they were.
-  pub moved-at : (n : ℕ) (now : List ℕ) → now ≡ movedOn from count sig words n → at now n ≡ at words n
-  unfolding movedOn
+  pub moved-at : (n : ℕ) (now : List ℕ) → now ≡ shiftedTo from count sig words n → at now n ≡ at words n
+  unfolding shiftedTo
   moved-at n now e =
-      let xs = joined (moved from count sig words) n in
+      let xs = joined (shiftedAt from count sig words) n in
       ap₂ at e (let z : n ≡ length xs + 0 = omega (arith, rows n) in z)
       ∙ getD-append-add xs (drop n words) 0 0 ∙ getD-drop n words 0 0 ∙ ap (at words) (let z : n + 0 ≡ n = omega arith in z)
 
-  pub moved-more : (n x : ℕ) (now : List ℕ) → n < length words → now ≡ movedOn from count sig words n
-      → x ≡ moved-on (at count n) (at now n) (at sig (at from n)) → set now n x ≡ movedOn from count sig words (n + 1)
-  unfolding movedOn joined
+  pub moved-more : (n x : ℕ) (now : List ℕ) → n < length words → now ≡ shiftedTo from count sig words n
+      → x ≡ shifted (at count n) (at now n) (at sig (at from n)) → set now n x ≡ shiftedTo from count sig words (n + 1)
+  unfolding shiftedTo joined
   moved-more n x now h e q =
-      let xs = joined (moved from count sig words) n in
-      let y = moved-on (at count n) (at words n) (at sig (at from n)) in
-      ap₂ (λ l z. set l n z) (e ∙ ap (λ l. xs ++ l) (drop-cons words n 0 h)) (q ∙ ap (λ z. moved-on (at count n) z (at sig (at from n))) (moved-at n now e))
+      let xs = joined (shiftedAt from count sig words) n in
+      let y = shifted (at count n) (at words n) (at sig (at from n)) in
+      ap₂ (λ l z. set l n z) (e ∙ ap (λ l. xs ++ l) (drop-cons words n 0 h)) (q ∙ ap (λ z. shifted (at count n) z (at sig (at from n))) (moved-at n now e))
       ∙ set-at xs (at words n) (drop (suc n) words) y n (rows n)
       ∙ rw add-one (sym (append-assoc xs (y ∷ []) (drop (suc n) words)))

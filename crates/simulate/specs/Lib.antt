@@ -3,8 +3,5 @@ pub mod Clock
 pub mod Step
 pub mod Run
 pub mod Theorems
--- Inside: the plan of a netlist, made once; the parts of one clock; clocks in a row.
-pub mod Plan
-pub mod Parts
-pub mod Signals
-pub mod Ran
+-- What functions promise each other.
+pub mod inner

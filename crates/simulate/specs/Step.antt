@@ -1,9 +1,8 @@
 -- Stepping: one clock on a machine record.
---   bits, wordsFit      the tests of 13
+--   onlyBits, wordsFit  the tests of 13
 --   stepSays            what a step says of a netlist that is sound: 13, 12 or how many bytes it puts out
 --   machineAfter        the machine record that it leaves
 --   Steps net m vector old s m′ new
--- Assumes nothing.
 use mathlib.Core.Path.{_≡_}
 use mathlib.Core.Bool.{Bool, true, cond, false}
 use mathlib.Core.List.{List, [], _∷_}
@@ -11,7 +10,7 @@ use Prim.Native.Nat.{ℕ, zero, suc, _^_}
 use lib.Dec.{eqb, ltb, leb}
 use lib.ListN.{length, getD}
 use Rattle.netlist.specs.declared.Netlist.{Netlist}
-use Rattle.netlist.specs.Answer.{Says, value, refused, whole, andThen, needs, holds}
+use Rattle.netlist.specs.Answer.{Said, value, refused, whole, andThen, needs, holds}
 use Rattle.netlist.specs.Net.{regsOf}
 use Rattle.rules.specs.Rules.{every}
 use Rattle.netlist.specs.Read.{Reads}
@@ -20,9 +19,9 @@ use Rattle.simulate.specs.declared.Machine.{Machine}
 use Rattle.simulate.specs.Clock.{inputs, outputs, outputValues, wordsAfter}
 
 -- The opposite of "a byte above 1".
-unfoldable pub bits : List ℕ → Bool
-bits [] = true
-bits (b ∷ l) = cond (leb b 1) (bits l) false
+unfoldable pub onlyBits : List ℕ → Bool
+onlyBits [] = true
+onlyBits (b ∷ l) = cond (leb b 1) (onlyBits l) false
 
 -- The opposite of "a machine word with a bit at or above its edge's count", for the first n edges.
 unfoldable pub wordsFit : Netlist → List ℕ → ℕ → Bool
@@ -31,19 +30,19 @@ wordsFit net words (suc n) = cond (wordsFit net words n) (ltb (getD words n 0) (
 
 -- "13 (whole): vector bytes not a multiple of the inputs (stepping: not one vector), a byte above 1, or a machine word with a bit at or above its edge's count."
 -- "stepping with 13, 12 (stepping writes one vector of outputs …)".
-unfoldable pub stepSays : Netlist → List ℕ → List ℕ → ℕ → Says
+unfoldable pub stepSays : Netlist → List ℕ → List ℕ → ℕ → Said
 stepSays net words vector room =
-    cond (every (eqb (length vector) (inputs net) ∷ bits vector ∷ wordsFit net words (net .edges) ∷ []))
+    cond (every (eqb (length vector) (inputs net) ∷ onlyBits vector ∷ wordsFit net words (net .edges) ∷ []))
     (needs (outputs net) room)
     (whole 13)
 
-abbrev pub machineAfter : Says → Netlist → Machine → List ℕ → Machine
+abbrev pub machineAfter : Said → Netlist → Machine → List ℕ → Machine
 machineAfter (value n) net m vector = record { words = wordsAfter net (m .words) vector }
 machineAfter (refused q k p) net m vector = m
 
 -- "Writing and stepping take a netlist record and check 2 to 7 as if its lines were read." The netlist of these lines is the one that is stepped: rows past them are read by nothing.
-pub record Steps (net : Netlist) (m : Machine) (vector old : List ℕ) (s : Says) (m′ : Machine) (new : List ℕ) : Type 0 where
-  pub checked : Says
+pub record Steps (net : Netlist) (m : Machine) (vector old : List ℕ) (s : Said) (m′ : Machine) (new : List ℕ) : Type 0 where
+  pub checked : Said
   pub same : Netlist
   pub check : Reads (textOf net) checked same
   pub answer : s ≡ andThen checked (stepSays same (m .words) vector (length old))

@@ -5,7 +5,6 @@
 --   RunIsStepping, StepsGoOn              a run is steps, and none of them is refused
 --   TraceExists, TraceUnique, RunIsTrace  a run puts out the values of the trace
 --   RunsAlike           netlists whose traces agree run alike
--- Assumes nothing.
 use mathlib.Core.Path.{_≡_}
 use mathlib.Core.Bool.{true}
 use mathlib.Core.List.{List, _++_}
@@ -14,30 +13,30 @@ use lib.ListN.{length, getD, take, drop}
 use Rattle.theory.specs.Clock.{gather, Trace}
 use Rattle.theory.specs.Gate.{gate}
 use Rattle.netlist.specs.declared.Netlist.{Netlist}
-use Rattle.netlist.specs.Answer.{Says, value}
+use Rattle.netlist.specs.Answer.{Said, value}
 use Rattle.netlist.specs.Net.{graphOf, regsOf}
 use Rattle.netlist.specs.Read.{Reads}
 use Rattle.netlist.specs.Write.{joined}
 use Rattle.netlist.specs.Theorems.{Same}
 use Rattle.simulate.specs.declared.Machine.{Machine}
-use Rattle.simulate.specs.Clock.{before, inputs, outputs}
-use Rattle.simulate.specs.Step.{bits, wordsFit, Steps}
+use Rattle.simulate.specs.Clock.{earlier, inputs, outputs}
+use Rattle.simulate.specs.Step.{onlyBits, wordsFit, Steps}
 use Rattle.simulate.specs.Run.{clocksFrom, Runs}
 
 -- ── The calls ───────────────────────────────────────────────────────────────────────────────
 
 -- Every call has an outcome, and one only.
 abbrev pub SomeRun : Type 0
-SomeRun = (t vectors old : List ℕ) → (s : Says) × (new : List ℕ) × Runs t vectors old s new
+SomeRun = (t vectors old : List ℕ) → (s : Said) × (new : List ℕ) × Runs t vectors old s new
 
 abbrev pub OneRun : Type 0
-OneRun = (t vectors old : List ℕ) (s s′ : Says) (new new′ : List ℕ) → Runs t vectors old s new → Runs t vectors old s′ new′ → (s ≡ s′) × (new ≡ new′)
+OneRun = (t vectors old : List ℕ) (s s′ : Said) (new new′ : List ℕ) → Runs t vectors old s new → Runs t vectors old s′ new′ → (s ≡ s′) × (new ≡ new′)
 
 abbrev pub SomeStep : Type 0
-SomeStep = (net : Netlist) (m : Machine) (vector old : List ℕ) → (s : Says) × (m′ : Machine) × (new : List ℕ) × Steps net m vector old s m′ new
+SomeStep = (net : Netlist) (m : Machine) (vector old : List ℕ) → (s : Said) × (m′ : Machine) × (new : List ℕ) × Steps net m vector old s m′ new
 
 abbrev pub OneStep : Type 0
-OneStep = (net : Netlist) (m : Machine) (vector old : List ℕ) (s s′ : Says) (m′ m″ : Machine) (new new′ : List ℕ)
+OneStep = (net : Netlist) (m : Machine) (vector old : List ℕ) (s s′ : Said) (m′ m″ : Machine) (new new′ : List ℕ)
     → Steps net m vector old s m′ new → Steps net m vector old s′ m″ new′ → (s ≡ s′) × (m′ ≡ m″) × (new ≡ new′)
 
 -- "A vector holds one byte, 0 or 1, per input in node order; outputs come the same way.": a netlist that reads has one of each at least, as each node is joined to both (rule 7).
@@ -46,7 +45,7 @@ HasPins = (t : List ℕ) (net : Netlist) → Reads t (value 0) net → (0 < inpu
 
 -- "words past the E-th are neither read nor changed", and rows past the netlist are not read.
 abbrev pub WordsUnread : Type 0
-WordsUnread = (net net′ : Netlist) (m k m′ : Machine) (vector old : List ℕ) (s : Says) (new : List ℕ)
+WordsUnread = (net net′ : Netlist) (m k m′ : Machine) (vector old : List ℕ) (s : Said) (new : List ℕ)
     → Same net net′ → ((e : ℕ) → e < net .edges → getD (m .words) e 0 ≡ getD (k .words) e 0)
     → Steps net m vector old s m′ new
     → (k′ : Machine) × Steps net′ k vector old s k′ new
@@ -63,7 +62,7 @@ RunIsStepping = (t : List ℕ) (net : Netlist) (m m′ : Machine) (n o : ℕ) (v
 abbrev pub StepsGoOn : Type 0
 StepsGoOn = (t : List ℕ) (net : Netlist) → Reads t (value 0) net
     → (wordsFit net (net .start) (net .edges) ≡ true)
-    × ((m : Machine) (vector old : List ℕ) → wordsFit net (m .words) (net .edges) ≡ true → length vector ≡ inputs net → bits vector ≡ true → outputs net ≤ length old
+    × ((m : Machine) (vector old : List ℕ) → wordsFit net (m .words) (net .edges) ≡ true → length vector ≡ inputs net → onlyBits vector ≡ true → outputs net ≤ length old
     → (m′ : Machine) × (new : List ℕ) × Steps net m vector old (value (outputs net)) m′ new × (wordsFit net (m′ .words) (net .edges) ≡ true))
 
 -- ── The trace ───────────────────────────────────────────────────────────────────────────────
@@ -81,12 +80,12 @@ TraceUnique = (t : List ℕ) (net : Netlist) (ins x y : ℕ → ℕ → ℕ) →
 
 -- The byte of the input v at clock k.
 abbrev pub byteAt : Netlist → List ℕ → ℕ → ℕ → ℕ
-byteAt net vectors v k = getD vectors (k * inputs net + before net 0 v) 0
+byteAt net vectors v k = getD vectors (k * inputs net + earlier net 0 v) 0
 
 -- A run puts out the trace's values.
 abbrev pub RunIsTrace : Type 0
 RunIsTrace = (t : List ℕ) (net : Netlist) (n : ℕ) (vectors : List ℕ) (x : ℕ → ℕ → ℕ)
-    → Reads t (value 0) net → bits vectors ≡ true
+    → Reads t (value 0) net → onlyBits vectors ≡ true
     → Trace gate (graphOf net) (regsOf net) (byteAt net vectors) x
     → clocksFrom net n (net .start) vectors ≡ joined (λ k. gather (graphOf net .kind) (λ v. x v k) 1 (net .nodes)) n
 
@@ -96,4 +95,4 @@ RunsAlike = (t t′ : List ℕ) (net net′ : Netlist) → Reads t (value 0) net
     → net .nodes ≡ net′ .nodes → ((v : ℕ) → v < net .nodes → getD (net .kind) v 0 ≡ getD (net′ .kind) v 0)
     → ((ins x y : ℕ → ℕ → ℕ) → Trace gate (graphOf net) (regsOf net) ins x → Trace gate (graphOf net′) (regsOf net′) ins y
     → (v k : ℕ) → v < net .nodes → getD (net .kind) v 0 ≡ 1 → x v k ≡ y v k)
-    → (vectors old : List ℕ) (s : Says) (new : List ℕ) → Runs t vectors old s new → Runs t′ vectors old s new
+    → (vectors old : List ℕ) (s : Said) (new : List ℕ) → Runs t vectors old s new → Runs t′ vectors old s new

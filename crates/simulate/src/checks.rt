@@ -7,15 +7,15 @@ ghost use lib.Dec.{eqb};
 ghost use lib.ListN.{length};
 ghost use Rattle.rules.specs.Rules.{every};
 ghost use Rattle.netlist.specs.Theorems.{Fit};
-ghost use Rattle.simulate.specs.Clock.{before, inputs};
-ghost use Rattle.simulate.specs.Step.{bits, wordsFit};
+ghost use Rattle.simulate.specs.Clock.{earlier, inputs};
+ghost use Rattle.simulate.specs.Step.{onlyBits, wordsFit};
 use netlist::Netlist;
 use rules::bits_fit;
 
 // How many nodes have the gate kind k.
 pub fn count_kind(net: Netlist, k: u8) -> usize
     requires { ⌜ net .nodes ≤ 512 ⌝ }
-    ensures { λ r. ⌜ r ≡ before net k (net .nodes) ⌝ }
+    ensures { λ r. ⌜ r ≡ earlier net k (net .nodes) ⌝ }
 {
     let nodes = net.nodes as usize;
     let mut n = 0;
@@ -31,7 +31,7 @@ pub fn count_kind(net: Netlist, k: u8) -> usize
 
 // Whether no byte is above 1.
 pub fn are_bits(vector: &[u8]) -> bool
-    ensures { λ r. ⌜ r ≡ bits (now (vector .entry)) ⌝ }
+    ensures { λ r. ⌜ r ≡ onlyBits (now (vector .entry)) ⌝ }
 {
     let mut i = 0;
     while i < vector.len() {
@@ -62,7 +62,7 @@ fn words_fit(net: Netlist, words: &[u32]) -> bool
 // Rule 13 of stepping: one vector, of bits, and words that fit.
 pub fn step_fits(net: Netlist, words: &[u32], vector: &[u8]) -> bool
     requires { ⌜ Fit net × (net .edges ≤ length (now words)) ⌝ }
-    ensures { λ r. ⌜ r ≡ every (eqb (length (now (vector .entry))) (inputs net) ∷ bits (now (vector .entry)) ∷ wordsFit net (now (words .entry)) (net .edges) ∷ []) ⌝ }
+    ensures { λ r. ⌜ r ≡ every (eqb (length (now (vector .entry))) (inputs net) ∷ onlyBits (now (vector .entry)) ∷ wordsFit net (now (words .entry)) (net .edges) ∷ []) ⌝ }
 {
     if vector.len() != count_kind(net, 0) {
         return false;

@@ -7,14 +7,14 @@ ghost use lib.ListN.{length};
 ghost use lib.Seq.{sets};
 ghost use Rattle.theory.specs.Clock.{gather as gathered};
 ghost use Rattle.graph.specs.Columns.{at};
-ghost use Rattle.simulate.specs.Clock.{moved-on};
-ghost use Rattle.gates.specs.Gates.{AllBits};
-ghost use Rattle.simulate.specs.Signals.{among, Entered, Shown, Begun, movedOn, Movable};
+ghost use Rattle.simulate.specs.Clock.{shifted};
+ghost use Rattle.gates.specs.inner.Gates.{AllBits};
+ghost use Rattle.simulate.specs.inner.Signals.{among, Entered, RegistersShown, SignalsSet, shiftedTo, Movable};
 
 // What each edge with a register shows: bit 0 of its word.
 fn show_registers(words: &[u32], edges: usize, sig: &mut [u8])
     requires { ⌜ (edges ≤ length (now words)) × (512 + edges ≤ length (now sig)) ⌝ }
-    ensures { λ _. ⌜ Shown (now (words .entry)) edges (now (sig .entry)) (now (sig .exit)) ⌝ }
+    ensures { λ _. ⌜ RegistersShown (now (words .entry)) edges (now (sig .entry)) (now (sig .exit)) ⌝ }
 {
     let mut e = 0;
     while e < edges {
@@ -51,7 +51,7 @@ pub fn enter(
 )
     requires { ⌜ (nodes ≤ 512) × (nodes ≤ length (now kind)) × (at0 + among (now kind) 0 nodes ≤ length (now vectors)) ⌝ }
     requires { ⌜ (edges ≤ length (now words)) × (512 + edges ≤ length (now sig)) ⌝ }
-    ensures { λ _. ⌜ Begun (now (kind .entry)) nodes (now (words .entry)) edges (now (vectors .entry)) at0 (now (sig .entry)) (now (sig .exit)) ⌝ }
+    ensures { λ _. ⌜ SignalsSet (now (kind .entry)) nodes (now (words .entry)) edges (now (vectors .entry)) at0 (now (sig .entry)) (now (sig .exit)) ⌝ }
 {
     put_inputs(kind, nodes, vectors, at0, sig);
     show_registers(words, edges, sig);
@@ -60,7 +60,7 @@ pub fn enter(
 // "the word moves down a bit and u's value becomes bit w − 1", where w is above 0.
 fn shift_in(word: u32, w: u32, x: u32) -> u32
     requires { ⌜ (w ≤ 32) × (word < 2 ^ w) × (x ≤ 1) ⌝ }
-    ensures { λ r. ⌜ r ≡ moved-on w word x ⌝ }
+    ensures { λ r. ⌜ r ≡ shifted w word x ⌝ }
 {
     if w == 0 {
         return word;
@@ -72,7 +72,7 @@ fn shift_in(word: u32, w: u32, x: u32) -> u32
 // The words after a clock with these signals.
 fn shift<'a>(from: &'a [u16], count: &'a [u8], edges: usize, sig: &[u8], words: &mut [u32])
     requires { ⌜ Movable (now from) (now count) edges (now words) (length (now sig)) × AllBits (now sig) ⌝ }
-    ensures { λ _. ⌜ now (words .exit) ≡ movedOn (now (from .entry)) (now (count .entry)) (now (sig .entry)) (now (words .entry)) edges ⌝ }
+    ensures { λ _. ⌜ now (words .exit) ≡ shiftedTo (now (from .entry)) (now (count .entry)) (now (sig .entry)) (now (words .entry)) edges ⌝ }
 {
     let mut e = 0;
     while e < edges {
@@ -113,7 +113,7 @@ pub fn leave<'a>(
     requires { ⌜ (nodes ≤ length (now kind)) × (nodes ≤ length (now sig)) × (at0 + among (now kind) 1 nodes ≤ length (now out)) ⌝ }
     requires { ⌜ Movable (now from) (now count) edges (now words) (length (now sig)) × AllBits (now sig) ⌝ }
     ensures { λ _. ⌜ now (out .exit) ≡ sets (now (out .entry)) at0 (gathered (at (now (kind .entry))) (at (now (sig .entry))) 1 nodes) ⌝ }
-    ensures { λ _. ⌜ now (words .exit) ≡ movedOn (now (from .entry)) (now (count .entry)) (now (sig .entry)) (now (words .entry)) edges ⌝ }
+    ensures { λ _. ⌜ now (words .exit) ≡ shiftedTo (now (from .entry)) (now (count .entry)) (now (sig .entry)) (now (words .entry)) edges ⌝ }
 {
     put_outputs(kind, nodes, sig, out, at0);
     shift(from, count, edges, sig, words);

@@ -13,10 +13,10 @@ ghost use lib.ListN.{length};
 ghost use Rattle.theory.specs.Walk.{Loop};
 ghost use Rattle.graph.specs.Columns.{at};
 ghost use Rattle.netlist.specs.Net.{graphOf, regsOf};
-ghost use Rattle.netlist.specs.Read.{FanIn, All};
+ghost use Rattle.netlist.specs.Read.{FanInFits, All};
 ghost use Rattle.netlist.specs.Theorems.{Fit};
-ghost use Rattle.simulate.specs.Plan.{signal, Planned};
-ghost use Rattle.simulate.specs.Parts.{Kept};
+ghost use Rattle.simulate.specs.inner.Plan.{signal, Planned};
+ghost use Rattle.simulate.specs.inner.Parts.{Kept};
 
 // gates: how many nodes are no inputs; node: these, in evaluation order; first: where the signals that node v sees begin, those of node v + 1 after
 //   them;
@@ -76,7 +76,7 @@ fn signals_of(net: Netlist, ins: &[u16]) -> [u16; 1024]
 // The plan of a netlist that keeps the rules of its lines, and the rules 5 and 6.
 pub fn plan_of(net: Netlist) -> Plan
     requires { ⌜ Fit net ⌝ }
-    requires { ⌜ All (FanIn (graphOf net)) (net .nodes) ⌝ }
+    requires { ⌜ All (FanInFits (graphOf net)) (net .nodes) ⌝ }
     requires { ⌜ ¬ Loop (graphOf net) (regsOf net .count) ⌝ }
     ensures { λ r. ⌜ Planned net r ⌝ }
 {

@@ -1,6 +1,6 @@
 // Running: clocks in a row, one per vector.
 ghost use Rattle.netlist.specs.Answer.{says};
-ghost use Rattle.simulate.specs.Ran.{Runnable, Ran};
+ghost use Rattle.simulate.specs.inner.Ran.{Runnable, Ran};
 ghost use Rattle.simulate.specs.Run.{Runs};
 use crate::checks::are_bits;
 use crate::checks::count_kind;

@@ -13,7 +13,6 @@
 --   begun-none, begun-kept, begun-more        where the levels begin
 --   level-turn          a level is done
 --   ranked              all cells have numbers
--- Assumes nothing.
 use Prim.Native.Nat.{ℕ, zero, suc, _+_, _-_, _≤_, _<_}
 use native.Mathlib.Omega.{arith}
 use native.Mathlib.Decide.{ℕ-discrete, decLt}
@@ -24,11 +23,11 @@ use lib.ListN.{length, set, length-set}
 use lib.Seq.{getD-set-same, getD-set-other}
 use Rattle.theory.proofs.numbers.Pigeon.{no-injection, cons}
 use Rattle.graph.specs.Columns.{at}
-use Rattle.solve.specs.Parts.{Wired, Spans}
-use Rattle.solve.specs.Numbers.{Layered, Missing, Numbered, Extended, Waiting, Begun, Ranked}
+use Rattle.solve.specs.inner.Parts.{OperandsWired, Spans}
+use Rattle.solve.specs.inner.Numbers.{Layered, Missing, Numbered, Extended, Waiting, LevelsBegun, Ranked}
 use Rattle.solve.proofs.Spanning.{reach-bit, reach-cell}
 
-pub layered : {cells k : ℕ} {first operand span : List ℕ} → Wired cells first operand → cells ≤ length span → Spans k first operand span cells → Layered cells first operand span
+pub layered : {cells k : ℕ} {first operand span : List ℕ} → OperandsWired cells first operand → cells ≤ length span → Spans k first operand span cells → Layered cells first operand span
 layered {cells} {k} {first} {operand} {span} w rows s = record {
   wired = w;
   span-rows = rows;
@@ -93,7 +92,7 @@ module _ {cells m n : ℕ} {first operand span id code : List ℕ} (few : cells 
   pub numbered-given : (i : ℕ) → i < cells → ¬ (at id i ≡ 12288) → at id i < n
   numbered-given i h o = ⊎-elim (λ e. absurd (o e)) (λ e. e .0) (s .each i h)
 
-  module _ {i : ℕ} (w : Wired cells first operand) (h : i < cells) (own : at span i ≡ m) (free : at id i ≡ 12288)
+  module _ {i : ℕ} (w : OperandsWired cells first operand) (h : i < cells) (own : at span i ≡ m) (free : at id i ≡ 12288)
       (ready : (j : ℕ) → at first i ≤ j → j < at first (suc i) → 32 ≤ at operand j → at id (at operand j - 32) < n) where
     room : n < cells
     room = numbered-room i h free
@@ -283,15 +282,15 @@ module _ {m h i : ℕ} {span id stack : List ℕ} (s : Waiting m h i span id sta
 
 -- ── Levels ──────────────────────────────────────────────────────────────────────────────────
 
-pub begun-none : {n : ℕ} {span code levels : List ℕ} → Begun 0 n span code levels
+pub begun-none : {n : ℕ} {span code levels : List ℕ} → LevelsBegun 0 n span code levels
 begun-none = record {
   within = λ a h. absurd (let z : ⊥ = omega arith in z);
   climbs = λ a h. absurd (let z : ⊥ = omega arith in z);
   low = λ a q h l. absurd (let z : ⊥ = omega arith in z);
 }
 
-module _ {m n : ℕ} {span code levels : List ℕ} (s : Begun m n span code levels) where
-  pub begun-kept : {r : ℕ} {codes : List ℕ} → n ≤ r → ((q : ℕ) → q < n → at codes q ≡ at code q) → Begun m r span codes levels
+module _ {m n : ℕ} {span code levels : List ℕ} (s : LevelsBegun m n span code levels) where
+  pub begun-kept : {r : ℕ} {codes : List ℕ} → n ≤ r → ((q : ℕ) → q < n → at codes q ≡ at code q) → LevelsBegun m r span codes levels
   begun-kept l kept = record {
     within = λ a h. omega (arith, s .within a h);
     climbs = s .climbs;
@@ -317,7 +316,7 @@ module _ {m n : ℕ} {span code levels : List ℕ} (s : Begun m n span code leve
     low-more a q (yes e) h l = omega (arith, below q (omega (arith, ap (at (set levels m n)) e ∙ begun-here)))
     low-more a q (no e) h l = s .low a q (omega arith) (omega (arith, kept a e))
 
-    pub begun-more : Begun (m + 1) n span code (set levels m n)
+    pub begun-more : LevelsBegun (m + 1) n span code (set levels m n)
     begun-more = record {
       within = λ a h. within-more a (ℕ-discrete a m) h;
       climbs = λ a h. climbs-more a (ℕ-discrete (suc a) m) h;
@@ -326,8 +325,8 @@ module _ {m n : ℕ} {span code levels : List ℕ} (s : Begun m n span code leve
 
 -- A level is done: its cells and those before have their numbers.
 pub level-turn : {cells m n r : ℕ} {first operand span old id code levels : List ℕ} → cells ≤ 12288 → m < length levels → ((q : ℕ) → q < n → at span (at old q) < m)
-    → Begun m n span old levels → Extended cells m n r first operand span old id code → ((i : ℕ) → i < cells → at span i ≡ m → at id i < r)
-    → Numbered cells (m + 1) r first operand span id code × Begun (m + 1) r span code (set levels m n) × ((q : ℕ) → q < r → at span (at code q) < m + 1)
+    → LevelsBegun m n span old levels → Extended cells m n r first operand span old id code → ((i : ℕ) → i < cells → at span i ≡ m → at id i < r)
+    → Numbered cells (m + 1) r first operand span id code × LevelsBegun (m + 1) r span code (set levels m n) × ((q : ℕ) → q < r → at span (at code q) < m + 1)
 level-turn few rows below b x all = (
   numbered-level few (x .numbered) all,
   begun-kept (begun-more b rows below) (x .more) (x .kept),
@@ -335,7 +334,7 @@ level-turn few rows below b x all = (
 )
 
 pub ranked : {cells k m n : ℕ} {first operand span id code levels : List ℕ} → cells ≤ 12288 → Spans k first operand span cells → m ≡ k + 1
-    → Numbered cells m n first operand span id code → Begun (m + 1) n span code levels → at levels m ≡ n → Ranked cells k first operand id code levels
+    → Numbered cells m n first operand span id code → LevelsBegun (m + 1) n span code levels → at levels m ≡ n → Ranked cells k first operand id code levels
 ranked {cells} {k} {m} {n} {first} {operand} {span} {id} {code} {levels} few t e s b last = record {
   paired = record {
     id-rows = s .id-rows;

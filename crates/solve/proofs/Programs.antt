@@ -9,7 +9,6 @@
 --   search-ready        so it can be searched
 --   solves-old          the smallest choice is the same
 -- Why values are the same, by induction on the new number: an operand is a chosen bit, which stays, or a cell, which has a smaller number.
--- Assumes nothing.
 use Prim.Native.Nat.{ℕ, zero, suc, _+_, _-_, _/_, _%_, _≤_, _<_}
 use native.Mathlib.Omega.{arith}
 use mathlib.Core.Path.{_≡_, refl, sym, ap, ap₂, _∙_}
@@ -20,9 +19,9 @@ use lib.ListN.{length, take, drop}
 use lib.Seq.{drop-cons}
 use Rattle.theory.specs.Gate.{gate}
 use Rattle.graph.specs.Columns.{at}
-use Rattle.search.specs.Program.{look, valuesTo, valueAt, Program, Owes, Holds, Solves, Levelled}
-use Rattle.solve.specs.Parts.{Wired, Bits}
-use Rattle.solve.specs.Numbers.{Ranked, ins, moved, Renumbered, Redue}
+use Rattle.search.specs.inner.Program.{look, valuesTo, valueAt, Program, Owes, GivesDues, Solves, Levelled}
+use Rattle.solve.specs.inner.Parts.{OperandsWired, BitsBelow}
+use Rattle.solve.specs.inner.Numbers.{Ranked, ins, renumbered, Renumbered, Redue}
 use Rattle.search.proofs.Values.{look-bit, look-cell, values-at, value-gate}
 use Rattle.solve.proofs.Renumbering.{moved-bit, moved-cell, renumbered-room}
 
@@ -38,7 +37,7 @@ mapped-same f g xs ys (suc n) a b h l w =
     here : f (at xs (a + 0)) ≡ g (at ys (b + 0)) → f (at xs a) ≡ g (at ys b)
     here q = ap (λ i. f (at xs i)) (let z : a ≡ a + 0 = omega arith in z) ∙ q ∙ ap (λ i. g (at ys i)) (let z : b + 0 ≡ b = omega arith in z)
 
-pub program-wired : {cells k : ℕ} {kind first operand : List ℕ} → Program cells k kind first operand → Wired cells first operand
+pub program-wired : {cells k : ℕ} {kind first operand : List ℕ} → Program cells k kind first operand → OperandsWired cells first operand
 program-wired f = record {
   few-cells = f .few-cells;
   first-rows = f .first-rows;
@@ -46,7 +45,7 @@ program-wired f = record {
   earlier = λ i j h a b. ⊎-elim (λ w. omega (arith, f .few-bits)) (λ w. w .1) (f .earlier i j h a b);
 }
 
-pub program-bits : {cells k : ℕ} {kind first operand : List ℕ} → Program cells k kind first operand → Bits cells k first operand
+pub program-bits : {cells k : ℕ} {kind first operand : List ℕ} → Program cells k kind first operand → BitsBelow cells k first operand
 program-bits f i j h a b l = ⊎-elim (λ w. w) (λ w. omega arith) (f .earlier i j h a b)
 
 module _ {cells k : ℕ} {kind first operand id code levels kinds firsts operands : List ℕ} (f : Program cells k kind first operand)
@@ -65,7 +64,7 @@ module _ {cells k : ℕ} {kind first operand id code levels kinds firsts operand
   unfolding old
   old-in q j h a b = (omega arith, omega (arith, s .counts q h))
 
-  operand-old : (q j : ℕ) → q < cells → at firsts q ≤ j → j < at firsts (suc q) → at operands j ≡ moved id (at operand (old q j))
+  operand-old : (q j : ℕ) → q < cells → at firsts q ≤ j → j < at firsts (suc q) → at operands j ≡ renumbered id (at operand (old q j))
   unfolding old
   operand-old q j h a b =
       ap (at operands) (let z : j ≡ at firsts q + (j - at firsts q) = omega arith in z) ∙ s .same-operand q (j - at firsts q) h (omega (arith, s .counts q h))
@@ -139,7 +138,7 @@ module _ {cells k : ℕ} {kind first operand id code levels kinds firsts operand
         ∙ go (f .earlier (at code q) (at first (at code q) + t) (cell q h) (omega arith) (omega arith))
       where
         go : (at operand (at first (at code q) + t) < k) ⊎ ((32 ≤ at operand (at first (at code q) + t)) × (at operand (at first (at code q) + t) < 32 + at code q))
-            → look k c (valuesTo kinds firsts operands k c q) (moved id (at operand (at first (at code q) + t)))
+            → look k c (valuesTo kinds firsts operands k c q) (renumbered id (at operand (at first (at code q) + t)))
             ≡ look k c (valuesTo kind first operand k c (at code q)) (at operand (at first (at code q) + t))
         go (inl w) =
             let y = at operand (at first (at code q) + t) in
@@ -203,10 +202,10 @@ module _ {cells k : ℕ} {kind first operand id code levels kinds firsts operand
     value-due : (c x : ℕ) → x < at begin edges → valueAt kinds firsts operands k c (at dues x / 2) ≡ valueAt kind first operand k c (at due x / 2)
     value-due c x h = ap (valueAt kinds firsts operands k c) (due-cell x h) ∙ value-same c (at due x / 2) (o .cell x h)
 
-    holds-old : (c : ℕ) → Holds k kinds firsts operands dues (at begin edges) c → Holds k kind first operand due (at begin edges) c
+    holds-old : (c : ℕ) → GivesDues k kinds firsts operands dues (at begin edges) c → GivesDues k kind first operand due (at begin edges) c
     holds-old c w x h = sym (due-bit x h) ∙ w x h ∙ value-due c x h
 
-    holds-new : (c : ℕ) → Holds k kind first operand due (at begin edges) c → Holds k kinds firsts operands dues (at begin edges) c
+    holds-new : (c : ℕ) → GivesDues k kind first operand due (at begin edges) c → GivesDues k kinds firsts operands dues (at begin edges) c
     holds-new c w x h = due-bit x h ∙ w x h ∙ sym (value-due c x h)
 
     pub solves-old : (found : Bool) (c : ℕ) → Solves k kinds firsts operands dues (at begin edges) found c → Solves k kind first operand due (at begin edges) found c

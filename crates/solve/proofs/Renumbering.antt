@@ -6,7 +6,6 @@
 --   append-ready               the operands of a cell can be put, in the code's words
 --   renumbered-rises           later cells have later operands
 --   renumbered-room            there is room for the operands of the next cell
--- Assumes nothing.
 use Prim.Native.Nat.{ℕ, zero, suc, _+_, _-_, _*_, _/_, _%_, _≤_, _<_}
 use native.Mathlib.Omega.{arith}
 use native.Mathlib.Decide.{ℕ-discrete}
@@ -18,34 +17,34 @@ use lib.ListN.{length, set, length-set}
 use lib.Seq.{getD-set-same, getD-set-other}
 use Rattle.graph.specs.Columns.{at}
 use Rattle.theory.specs.Move.{sum}
-use Rattle.solve.specs.Parts.{Wired}
-use Rattle.solve.specs.Numbers.{Paired, ins, moved, Appended, Renumbered, Redue}
+use Rattle.solve.specs.inner.Parts.{OperandsWired}
+use Rattle.solve.specs.inner.Numbers.{Paired, ins, renumbered, Copied, Renumbered, Redue}
 use Rattle.solve.proofs.Sums.{sum-once}
 
 -- ── Operands and dues, one by one ───────────────────────────────────────────────────────────
 
-pub moved-bit : (id : List ℕ) (x : ℕ) → x < 32 → moved id x ≡ x
-unfolding moved
+pub moved-bit : (id : List ℕ) (x : ℕ) → x < 32 → renumbered id x ≡ x
+unfolding renumbered
 moved-bit id x h = rw (lt-ltb x 32 h)
 
-pub moved-cell : (id : List ℕ) (x : ℕ) → 32 ≤ x → moved id x ≡ 32 + at id (x - 32)
-unfolding moved
+pub moved-cell : (id : List ℕ) (x : ℕ) → 32 ≤ x → renumbered id x ≡ 32 + at id (x - 32)
+unfolding renumbered
 moved-cell id x h = rw (le-ltb x 32 h)
 
-pub appended-none : {operand id : List ℕ} {lo start : ℕ} {old : List ℕ} → Appended operand id lo lo start old old
+pub appended-none : {operand id : List ℕ} {lo start : ℕ} {old : List ℕ} → Copied operand id lo lo start old old
 appended-none = record { kept = λ p h. refl; put = λ t h. absurd (let z : ⊥ = omega arith in z) }
 
 pub appended-more : {operand id : List ℕ} {lo j start n : ℕ} {old operands : List ℕ} {v : ℕ} → lo ≤ j → n + lo ≡ start + j → n < length operands
-    → v ≡ moved id (at operand j) → Appended operand id lo j start old operands → Appended operand id lo (j + 1) start old (set operands n v)
+    → v ≡ renumbered id (at operand j) → Copied operand id lo j start old operands → Copied operand id lo (j + 1) start old (set operands n v)
 appended-more {operand} {id} {lo} {j} {start} {n} {old} {operands} {v} l e h g s = record {
   kept = λ p o. getD-set-other operands n p v 0 (λ z. omega arith) ∙ s .kept p o;
   put = λ t o. go t o (ℕ-discrete (lo + t) j);
 }
   where
-    go : (t : ℕ) → lo + t < j + 1 → Dec (lo + t ≡ j) → at (set operands n v) (start + t) ≡ moved id (at operand (lo + t))
+    go : (t : ℕ) → lo + t < j + 1 → Dec (lo + t ≡ j) → at (set operands n v) (start + t) ≡ renumbered id (at operand (lo + t))
     go t o (yes z) =
         let y : start + t ≡ n = omega arith in
-        ap (at (set operands n v)) y ∙ getD-set-same operands n v 0 h ∙ g ∙ ap (λ x. moved id (at operand x)) (sym z)
+        ap (at (set operands n v)) y ∙ getD-set-same operands n v 0 h ∙ g ∙ ap (λ x. renumbered id (at operand x)) (sym z)
     go t o (no z) = getD-set-other operands n (start + t) v 0 (λ y. omega arith) ∙ s .put t (omega arith)
 
 -- The loop of `renumber_dues`: the dues before x are done, the others as they were.
@@ -75,7 +74,7 @@ renumbered-none e = record {
   same-operand = λ q t h l. absurd (let z : ⊥ = omega arith in z);
 }
 
-pub append-ready : {cells : ℕ} {first operand id code : List ℕ} {i room : ℕ} (start : ℕ) → Wired cells first operand → ((i : ℕ) → i < cells → at first i ≤ at first (suc i))
+pub append-ready : {cells : ℕ} {first operand id code : List ℕ} {i room : ℕ} (start : ℕ) → OperandsWired cells first operand → ((i : ℕ) → i < cells → at first i ≤ at first (suc i))
     → Paired cells id code → i < cells → start + ins first i ≤ room
     → ((at first i ≤ at first (i + 1)) × (at first (i + 1) ≤ length operand) × (start + (at first (i + 1) - at first i) ≤ room))
     × ((j : ℕ) → at first i ≤ j → j < at first (i + 1) → 32 ≤ at operand j → (at operand j - 32 < length id) × (at id (at operand j - 32) < 12288))
@@ -126,7 +125,7 @@ module _ {n : ℕ} {kind first operand id code kinds firsts operands : List ℕ}
       total (suc m) l = omega (arith, total m (omega arith), rising m l)
 
   module _ (r : ℕ) (next : List ℕ) (kind-room : n < length kinds) (first-room : n + 1 < length firsts) (e : r ≡ at firsts n + ins first (at code n))
-      (t : Appended operand id (at first (at code n)) (at first (suc (at code n))) (at firsts n) operands next) where
+      (t : Copied operand id (at first (at code n)) (at first (suc (at code n))) (at firsts n) operands next) where
     first-old : (q : ℕ) → q ≤ n → at (set firsts (n + 1) r) q ≡ at firsts q
     first-old q h = getD-set-other firsts (n + 1) q r 0 (λ z. omega arith)
 
@@ -143,12 +142,12 @@ module _ {n : ℕ} {kind first operand id code kinds firsts operands : List ℕ}
     counts-more q h (no z) = omega (arith, first-old q (omega arith), first-old (suc q) (omega arith), s .counts q (omega arith))
 
     operand-more : (q j : ℕ) → q < n + 1 → j < ins first (at code q) → Dec (q ≡ n)
-        → at next (at (set firsts (n + 1) r) q + j) ≡ moved id (at operand (at first (at code q) + j))
+        → at next (at (set firsts (n + 1) r) q + j) ≡ renumbered id (at operand (at first (at code q) + j))
     operand-more q j h l (yes z) =
         let w : j < ins first (at code n) = subst (λ p. j < ins first (at code p)) z l in
         ap (λ p. at next (p + j)) (first-old q (omega arith) ∙ ap (at firsts) z)
         ∙ t .put j (omega arith)
-        ∙ ap (λ p. moved id (at operand (at first (at code p) + j))) (sym z)
+        ∙ ap (λ p. renumbered id (at operand (at first (at code p) + j))) (sym z)
     operand-more q j h l (no z) =
         let b : at firsts q + j < at firsts n = omega (arith, s .counts q (omega arith), renumbered-rises (suc q) n (omega arith) (omega arith)) in
         ap (λ p. at next (p + j)) (first-old q (omega arith)) ∙ t .kept (at firsts q + j) b ∙ s .same-operand q j (omega arith) l
@@ -163,7 +162,7 @@ module _ {n : ℕ} {kind first operand id code kinds firsts operands : List ℕ}
 
   -- In the code's words.
   pub renumbered-turn : {start r : ℕ} {next : List ℕ} → n < length kinds → n + 1 < length firsts → start ≡ at firsts n
-      → (r ≡ start + (at first (at code n + 1) - at first (at code n))) × Appended operand id (at first (at code n)) (at first (at code n + 1)) start operands next
+      → (r ≡ start + (at first (at code n + 1) - at first (at code n))) × Copied operand id (at first (at code n)) (at first (at code n + 1)) start operands next
       → Renumbered (n + 1) kind first operand id code (set kinds n (at kind (at code n))) (set firsts (n + 1) r) next
   renumbered-turn {start} {r} {next} a b e t =
       let z = rw (add-one (at code n), e) at t in

@@ -1,6 +1,5 @@
 -- Sums over different cells.
 --   sum-once            a sum over cells that are all different is at most the sum over all
--- Assumes nothing.
 use Prim.Native.Nat.{ℕ, zero, suc, _+_, _≤_, _<_}
 use native.Mathlib.Omega.{arith}
 use native.Mathlib.Decide.{ℕ-discrete}

@@ -1,4 +1,2 @@
--- What the cells of a program depend on.
-pub mod Parts
--- New numbers for the cells, and the program under them.
-pub mod Numbers
+-- Nobody outside has to believe anything of this crate: all is what functions promise each other.
+pub mod inner

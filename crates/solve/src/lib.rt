@@ -13,7 +13,7 @@ use search::search;
 ghost use Prim.Native.Nat.{_≤_};
 ghost use lib.ListN.{length};
 ghost use Rattle.graph.specs.Columns.{at};
-ghost use Rattle.search.specs.Program.{Program, Owes, Solves};
+ghost use Rattle.search.specs.inner.Program.{Program, Owes, Solves};
 
 // The smallest choice of k bits under which every cell gives what is due of it. The dues are left with other numbers of cells.
 pub fn solve<'a>(

@@ -5,8 +5,8 @@ ghost use mathlib.Core.Path.{_≡_};
 ghost use Prim.Native.Nat.{ℕ, suc, _/_, _≤_, _<_};
 ghost use lib.ListN.{length};
 ghost use Rattle.graph.specs.Columns.{at};
-ghost use Rattle.solve.specs.Parts.{Wired, Bits};
-ghost use Rattle.solve.specs.Numbers.{Layered, Missing, Numbered, Extended, Ranked};
+ghost use Rattle.solve.specs.inner.Parts.{OperandsWired, BitsBelow};
+ghost use Rattle.solve.specs.inner.Numbers.{Layered, Missing, Numbered, Extended, Ranked};
 
 // No number yet.
 const NONE: u16 = 12288;
@@ -20,7 +20,7 @@ fn missing(
     cells: usize,
     i: usize,
 ) -> usize
-    requires { ⌜ Wired cells (now first) (now operand) × (i < cells) × (cells ≤ length (now span)) × (cells ≤ length (now id)) ⌝ }
+    requires { ⌜ OperandsWired cells (now first) (now operand) × (i < cells) × (cells ≤ length (now span)) × (cells ≤ length (now id)) ⌝ }
     ensures { λ r. ⌜ Missing (now (first .entry)) (now (operand .entry)) (now (span .entry)) (now (id .entry)) i r ⌝ }
 {
     let end = first[i + 1] as usize;
@@ -193,7 +193,7 @@ pub fn number_cells<'a>(
     code: &mut [u16],
     levels: &mut [u16],
 )
-    requires { ⌜ Wired cells (now first) (now operand) × Bits cells k (now first) (now operand) × (k ≤ 24) × (suc k < length (now levels)) ⌝ }
+    requires { ⌜ OperandsWired cells (now first) (now operand) × BitsBelow cells k (now first) (now operand) × (k ≤ 24) × (suc k < length (now levels)) ⌝ }
     requires { ⌜ (total ≤ length (now due)) × ((x : ℕ) → x < total → at (now due) x / 2 < cells) ⌝ }
     requires { ⌜ (cells ≤ length (now id)) × (cells ≤ length (now code)) × ((i : ℕ) → i < cells → at (now id) i ≡ 12288) ⌝ }
     ensures { λ _. ⌜ Ranked cells k (now (first .entry)) (now (operand .entry)) (now (id .exit)) (now (code .exit)) (now (levels .exit)) ⌝ }

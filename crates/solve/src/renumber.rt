@@ -4,13 +4,13 @@ ghost use mathlib.Core.Path.{_≡_};
 ghost use Prim.Native.Nat.{ℕ, suc, _+_, _-_, _*_, _/_, _%_, _≤_, _<_};
 ghost use lib.ListN.{length};
 ghost use Rattle.graph.specs.Columns.{at};
-ghost use Rattle.solve.specs.Parts.{Wired};
-ghost use Rattle.solve.specs.Numbers.{Paired, moved, Appended, Renumbered, Redue};
+ghost use Rattle.solve.specs.inner.Parts.{OperandsWired};
+ghost use Rattle.solve.specs.inner.Numbers.{Paired, renumbered, Copied, Renumbered, Redue};
 
 // An operand: a chosen bit stays, a cell has its new number.
 fn renumbered(x: u16, id: &[u16]) -> u16
     requires { ⌜ (32 ≤ x → (x - 32 < length (now id)) × (at (now id) (x - 32) < 12288)) ⌝ }
-    ensures { λ r. ⌜ r ≡ moved (now (id .entry)) x ⌝ }
+    ensures { λ r. ⌜ r ≡ renumbered (now (id .entry)) x ⌝ }
 {
     if x < 32 { x } else { 32 + id[x as usize - 32] }
 }
@@ -26,7 +26,7 @@ fn append_operands(
 ) -> usize
     requires { ⌜ (lo ≤ hi) × (hi ≤ length (now operand)) × (start + (hi - lo) ≤ length (now operands)) ⌝ }
     requires { ⌜ ((j : ℕ) → lo ≤ j → j < hi → 32 ≤ at (now operand) j → (at (now operand) j - 32 < length (now id)) × (at (now id) (at (now operand) j - 32) < 12288)) ⌝ }
-    ensures { λ r. ⌜ (r ≡ start + (hi - lo)) × Appended (now (operand .entry)) (now (id .entry)) lo hi start (now (operands .entry)) (now (operands .exit)) ⌝ }
+    ensures { λ r. ⌜ (r ≡ start + (hi - lo)) × Copied (now (operand .entry)) (now (id .entry)) lo hi start (now (operands .entry)) (now (operands .exit)) ⌝ }
 {
     let mut n = start;
     let mut j = lo;
@@ -50,7 +50,7 @@ pub fn renumber_cells<'a>(
     firsts: &mut [u16],
     operands: &mut [u16],
 )
-    requires { ⌜ Wired cells (now first) (now operand) × ((i : ℕ) → i < cells → at (now first) i ≤ at (now first) (suc i)) × Paired cells (now id) (now code) ⌝ }
+    requires { ⌜ OperandsWired cells (now first) (now operand) × ((i : ℕ) → i < cells → at (now first) i ≤ at (now first) (suc i)) × Paired cells (now id) (now code) ⌝ }
     requires { ⌜ (cells ≤ length (now kind)) × (cells ≤ length (now kinds)) × (suc cells ≤ length (now firsts)) × ((i : ℕ) → i < cells → at (now first) (suc i) ≤ length (now operands)) ⌝ }
     ensures { λ _. ⌜ Renumbered cells (now (kind .entry)) (now (first .entry)) (now (operand .entry)) (now (id .entry)) (now (code .entry)) (now (kinds .exit)) (now (firsts .exit)) (now (operands .exit)) ⌝ }
 {

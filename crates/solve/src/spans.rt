@@ -4,12 +4,12 @@ ghost use mathlib.Core.Path.{_≡_};
 ghost use Prim.Native.Nat.{ℕ, _-_, _≤_, _<_};
 ghost use lib.ListN.{length};
 ghost use Rattle.graph.specs.Columns.{at};
-ghost use Rattle.solve.specs.Parts.{reach, Most, Wired, Bits, Spans};
+ghost use Rattle.solve.specs.inner.Parts.{depth, Most, OperandsWired, BitsBelow, Spans};
 
 // .. an operand: a chosen bit on those up to it, a cell on its span.
 fn reach_of(x: u16, span: &[u16]) -> u16
     requires { ⌜ (32 ≤ x → x - 32 < length (now span)) ⌝ }
-    ensures { λ r. ⌜ r ≡ reach (now (span .entry)) x ⌝ }
+    ensures { λ r. ⌜ r ≡ depth (now (span .entry)) x ⌝ }
 {
     if x < 32 { x + 1 } else { span[x as usize - 32] }
 }
@@ -34,7 +34,7 @@ fn span_of(operand: &[u16], start: usize, end: usize, span: &[u16]) -> u16
 
 // .. each cell, by its operands, which come before it.
 pub fn spans<'a>(first: &'a [u16], operand: &'a [u16], cells: usize, k: u32) -> [u16; 12288]
-    requires { ⌜ Wired cells (now first) (now operand) × Bits cells k (now first) (now operand) ⌝ }
+    requires { ⌜ OperandsWired cells (now first) (now operand) × BitsBelow cells k (now first) (now operand) ⌝ }
     ensures { λ r. ⌜ Spans k (now (first .entry)) (now (operand .entry)) r cells ⌝ }
 {
     let mut span = [0u16; 12288];

@@ -6,7 +6,6 @@
 --   puts-more, puts-end    the cells put at the places of one node, a place at a time
 --   node-more           the cells put node by node
 --   cellable-wider      with more room
--- Assumes nothing.
 use Prim.Native.Nat.{ℕ, suc, _+_, _-_, _%_, _<_, _≤_}
 use native.Mathlib.Omega.{arith}
 use native.Mathlib.Numerals.{add-one}
@@ -20,7 +19,7 @@ use borrow.Author.Tests.{lt-ltb, le-ltb}
 use Rattle.graph.specs.Columns.{at, bit}
 use Rattle.netlist.specs.Net.{zeros}
 use Rattle.netlist.proofs.Rows.{zeros-at}
-use Rattle.starts.specs.Ring.{row, Empty, cellOf, edgeCell, Puts, CellsOf, Readable, CellableOf}
+use Rattle.starts.specs.inner.Ring.{row, Empty, cellOf, edgeCell, Puts, CellsOf, EdgeRows, CellableOf}
 
 -- Told of any length, so that no list of that length is written out.
 pub empty-is : (n : ℕ) → n ≡ 32770 → Empty (set (replicate n 0) 32769 1)
@@ -57,7 +56,7 @@ cell-turn u w word s h l =
     further t = omega arith
 
 -- Past the start values, a row further is the next clock.
-pub edge-turn : (from count start : List ℕ) (e t s : ℕ) → Readable from count start e → 32 ≤ t → t + 1 ≡ s
+pub edge-turn : (from count start : List ℕ) (e t s : ℕ) → EdgeRows from count start e → 32 ≤ t → t + 1 ≡ s
     → (edgeCell from count start t e % 32768 + 512) % 32768 ≡ edgeCell from count start s e
 edge-turn from count start e t s r h q =
     cell-turn (at from e) (at count e) (at start e) t (omega (arith, r .width)) (r .source) ∙ ap (λ x. edgeCell from count start x e) q

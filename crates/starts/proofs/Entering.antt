@@ -2,7 +2,6 @@
 --   Entering            where those of each node stand, and that they are the netlist's
 --   entering            so after sorting
 --   part-map, map-at    a part of a list through a function; a member
--- Assumes nothing.
 use Prim.Native.Nat.{ℕ, zero, suc, _+_, _<_, _≤_}
 use native.Mathlib.Omega.{arith}
 use mathlib.Core.Path.{_≡_, refl, ap₂}
@@ -11,10 +10,10 @@ use lib.ListN.{length, take, drop}
 use lib.Seq.{drop-cons}
 use Rattle.theory.specs.Clock.{gather}
 use Rattle.graph.specs.Columns.{at}
-use Rattle.graph.specs.Sort.{Sorts}
-use Rattle.gates.specs.Gates.{part}
+use Rattle.graph.specs.inner.Sort.{Sorts}
+use Rattle.gates.specs.inner.Gates.{part}
 use Rattle.netlist.specs.declared.Netlist.{Netlist}
-use Rattle.simulate.specs.Ran.{Steppable}
+use Rattle.simulate.specs.inner.Ran.{Steppable}
 use Rattle.simulate.proofs.Seen.{ins-edge, first-rises, first-low, seen-count, seen-signals}
 use Rattle.simulate.proofs.Plans.{fan-low}
 

@@ -7,7 +7,6 @@
 --   following-truths    their truth words are those of the kinds
 --   following-evaluable the nodes can be evaluated
 --   following-next      one clock
--- Assumes nothing.
 use Prim.Native.Nat.{ℕ, suc, _+_, _*_, _-_, _/_, _%_, _<_, _≤_}
 use native.Mathlib.Omega.{arith}
 use mathlib.Core.Path.{_≡_, subst}
@@ -15,13 +14,13 @@ use mathlib.Core.Logic.{_⊎_}
 use mathlib.Core.List.{List}
 use lib.ListN.{length}
 use Rattle.graph.specs.Columns.{at}
-use Rattle.graph.specs.Sort.{Ordered}
-use Rattle.gates.specs.Gates.{Reckons, Table, evaluated, Evaluable, Truths}
+use Rattle.graph.specs.inner.Sort.{Ordered}
+use Rattle.gates.specs.inner.Gates.{Reckons, Table, evaluated, Evaluable, Truths}
 use Rattle.netlist.specs.declared.Netlist.{Netlist}
-use Rattle.simulate.specs.Ran.{Steppable}
-use Rattle.moves.specs.Labels.{Labelled}
+use Rattle.simulate.specs.inner.Ran.{Steppable}
+use Rattle.moves.specs.inner.Labels.{Labelled}
 use Rattle.moves.proofs.Labels.{from-node, low-nodes, low-edges}
-use Rattle.starts.specs.Ring.{row, Asked, Empty, Cells, CellsOf, CellableOf, Kept}
+use Rattle.starts.specs.inner.Ring.{row, AskedAt, Empty, Cells, CellsOf, CellableOf, Kept}
 use Rattle.starts.proofs.Cells.{cell-in}
 use Rattle.starts.proofs.Entering.{Entering}
 use Rattle.starts.proofs.Listed.{Listed, listed-start, listed-next, Refreshed, refreshed}
@@ -70,7 +69,7 @@ module _ (net : Netlist) (lab ins first truth index : List ℕ) (clocks : ℕ) w
       λ i l. omega (arith, w .listed .nodes-only i l, w .ready .labelled .rows),
     )
 
-    module _ (new : List ℕ) (r : ℕ) (kept : ((0 < s % 32) × (r ≡ n) × (new ≡ list)) ⊎ Kept (Asked lab s) list n new r) (size : length new ≡ length list) where
+    module _ (new : List ℕ) (r : ℕ) (kept : ((0 < s % 32) × (r ≡ n) × (new ≡ list)) ⊎ Kept (AskedAt lab s) list n new r) (size : length new ≡ length list) where
       fresh : Refreshed net lab s list n new r
       fresh = refreshed net lab s list n new r (w .listed) (w .near) kept
 

@@ -6,7 +6,6 @@
 --   fillable            what filling up the word asks
 --   shown-found         the others stand in the ring
 --   moved-is            the netlist with the new counts and start values is the moved one
--- Assumes nothing.
 use Prim.Native.Nat.{ℕ, suc, _+_, _*_, _-_, _^_, _/_, _%_, _≤_, _<_, min}
 use native.Mathlib.Omega.{arith}
 use native.Mathlib.Nat.{pow-suc, lt-of-lt-of-le}
@@ -22,19 +21,20 @@ use Rattle.theory.specs.Lag.{up}
 use Rattle.theory.specs.Move.{move, digit}
 use Rattle.theory.specs.Retimer.{retimed}
 use Rattle.graph.specs.Columns.{at}
-use Rattle.gates.specs.Gates.{AllBits}
+use Rattle.gates.specs.inner.Gates.{AllBits}
 use Rattle.netlist.specs.declared.Netlist.{Netlist}
 use Rattle.netlist.specs.Net.{graphOf, regsOf}
-use Rattle.lags.specs.Lags.{lagOf}
+use Rattle.lags.specs.inner.Lags.{lagOf}
 use Rattle.lags.proofs.Laws.{lag-label}
-use Rattle.moves.specs.Labels.{lagsOf, chosenAt}
-use Rattle.moves.specs.Moving.{Moving}
-use Rattle.moves.specs.Moved.{wordOf, movedNet, Filled, none, withColumns}
+use Rattle.moves.specs.inner.Labels.{lagsOf, chosenAt}
+use Rattle.moves.specs.inner.Moving.{Moving}
+use Rattle.moves.specs.Moved.{wordOf, movedNet}
+use Rattle.moves.specs.inner.Columns.{Filled, none, withColumns}
 use Rattle.moves.proofs.Words.{sum-same, word-fits}
 use Rattle.moves.proofs.Labels.{up-high, up-low, from-node, low-edges, low-nodes, new-fits, new-is, sum-more, sum-grows}
 use Rattle.moves.proofs.Moved.{with-is}
-use Rattle.starts.specs.Ring.{Followed}
-use Rattle.starts.specs.Starts.{startAt, chosenWord, shownCell, startsAt}
+use Rattle.starts.specs.inner.Ring.{Followed}
+use Rattle.starts.specs.inner.Starts.{startAt, chosenWord, shownCell, startsAt}
 use Rattle.starts.proofs.Quiet.{new-chosen, new-seen}
 use Rattle.starts.proofs.Held.{edge-width, shows}
 

@@ -4,7 +4,6 @@
 --   Held                of each node the last 32 values up to clock s, or to the last that is asked for, are in the ring
 --   held-start, held-end    before clock 0; when no clock is left that is asked for
 --   held-next           one clock
--- Assumes nothing.
 use Prim.Native.Nat.{ℕ, zero, suc, _+_, _-_, _*_, _/_, _%_, _<_, _≤_, min}
 use native.Mathlib.Omega.{arith}
 use native.Mathlib.Decide.{ℕ-discrete, decLt}
@@ -20,18 +19,18 @@ use Rattle.theory.proofs.clocks.Gate.{gate-bit}
 use Rattle.theory.proofs.clocks.Seen.{seen-early, seen-late, gather-same}
 use Rattle.theory.proofs.clocks.Value.{value-trace}
 use Rattle.graph.specs.Columns.{at, bit}
-use Rattle.gates.specs.Gates.{part, AllBits, evaluated}
+use Rattle.gates.specs.inner.Gates.{part, AllBits, evaluated}
 use Rattle.gates.proofs.Row.{bits-set}
 use Rattle.netlist.specs.declared.Netlist.{Netlist}
 use Rattle.netlist.specs.Net.{graphOf, regsOf}
 use Rattle.netlist.specs.Theorems.{Fit}
 use Rattle.netlist.proofs.Fits.{edge-fits}
 use Rattle.netlist.proofs.Run.{fit-wired}
-use Rattle.simulate.specs.Ran.{Steppable}
+use Rattle.simulate.specs.inner.Ran.{Steppable}
 use Rattle.lags.proofs.Laws.{lag-label}
-use Rattle.moves.specs.Labels.{Labelled}
+use Rattle.moves.specs.inner.Labels.{Labelled}
 use Rattle.moves.proofs.Labels.{from-node, low-nodes, new-fits}
-use Rattle.starts.specs.Ring.{row, quietly, Asked, Followed, Empty, edgeCell, CellsOf}
+use Rattle.starts.specs.inner.Ring.{row, quietly, AskedAt, Followed, Empty, edgeCell, CellsOf}
 use Rattle.starts.proofs.Entering.{Entering, part-map, map-at}
 use Rattle.starts.proofs.Listed.{Listed}
 use Rattle.starts.proofs.Cells.{cell-early, cell-late}
@@ -46,13 +45,13 @@ quiet-trace net ok = value-trace gate (graphOf net) (fit-wired net (ok .fit)) (r
 
 module _ (net : Netlist) (lab : List ℕ) (m : Labelled net lab) where
   -- An input's lag is 0.
-  asked-gate : (v s : ℕ) → v < net .nodes → Asked lab s v → ¬ (at (net .kind) v ≡ 0)
+  asked-gate : (v s : ℕ) → v < net .nodes → AskedAt lab s v → ¬ (at (net .kind) v ≡ 0)
   asked-gate v s h a k =
       let z = m .legal .pinned v h (omega arith) in
       omega (arith, lag-label (at lab v), ap up z, ap down z)
 
   -- By w + r(v) − r(u) ≥ 0.
-  asked-source : (e s t : ℕ) → e < net .edges → Asked lab s (at (net .to) e) → at (net .count) e + t ≡ s → Asked lab t (at (net .from) e)
+  asked-source : (e s t : ℕ) → e < net .edges → AskedAt lab s (at (net .to) e) → at (net .count) e + t ≡ s → AskedAt lab t (at (net .from) e)
   asked-source e s t h a q = omega (arith, new-fits net lab m e h)
 
 pub shows : (net : Netlist) (ring : List ℕ) → at ring 32768 ≡ 0 → at ring 32769 ≡ 1 → (s e : ℕ)
@@ -87,7 +86,7 @@ pub record Held (net : Netlist) (lab : List ℕ) (s : ℕ) (ring : List ℕ) : T
   pub bits : AllBits ring
   pub zeroth : at ring 32768 ≡ 0
   pub one : at ring 32769 ≡ 1
-  pub past : (v t : ℕ) → v < net .nodes → t < s → Asked lab t v → min s (16384 - at lab v) ≤ t + 32 → at ring (row t + v) ≡ quietly net v t
+  pub past : (v t : ℕ) → v < net .nodes → t < s → AskedAt lab t v → min s (16384 - at lab v) ≤ t + 32 → at ring (row t + v) ≡ quietly net v t
 
 pub held-start : (net : Netlist) (lab ring : List ℕ) → length ring ≡ 32770 → Empty ring → Held net lab 0 ring
 held-start net lab ring size e = record {
@@ -126,31 +125,31 @@ module _ (net : Netlist) (lab : List ℕ) (ok : Steppable net) (m : Labelled net
     (cells : List ℕ) (rows : net .edges ≤ length ins) (size : net .edges ≤ length cells) (right : CellsOf list n first ins (net .from) (net .count) (net .start) s cells) where
   -- The first i nodes of the list have their values of clock s.
   abbrev Done : ℕ → List ℕ → Type 0
-  Done i ring = (j : ℕ) → j < i → Asked lab s (at list j) → at ring (row s + at list j) ≡ quietly net (at list j) s
+  Done i ring = (j : ℕ) → j < i → AskedAt lab s (at list j) → at ring (row s + at list j) ≡ quietly net (at list j) s
 
   -- The source of an edge without a register is an earlier node of the list; another edge shows one of the last 32 values, or a start value.
-  edge-right : (ring : List ℕ) (i e : ℕ) → Held net lab s ring → Done i ring → i < n → e < net .edges → at (net .to) e ≡ at list i → Asked lab s (at list i)
+  edge-right : (ring : List ℕ) (i e : ℕ) → Held net lab s ring → Done i ring → i < n → e < net .edges → at (net .to) e ≡ at list i → AskedAt lab s (at list i)
       → at ring (edgeCell (net .from) (net .count) (net .start) s e) ≡ seen (graphOf net) (regsOf net) (quietly net) e s
   edge-right ring i e held done h l q a =
       shows net ring (held .zeroth) (held .one) s e
-      (λ t r. go t r (asked-source net lab m e s t l (subst (Asked lab s) (sym q) a) r) (ℕ-discrete (at (net .count) e) 0))
+      (λ t r. go t r (asked-source net lab m e s t l (subst (AskedAt lab s) (sym q) a) r) (ℕ-discrete (at (net .count) e) 0))
     where
       u : ℕ
       u = at (net .from) e
 
-      go : (t : ℕ) → at (net .count) e + t ≡ s → Asked lab t u → Dec (at (net .count) e ≡ 0) → at ring (row t + u) ≡ quietly net u t
+      go : (t : ℕ) → at (net .count) e + t ≡ s → AskedAt lab t u → Dec (at (net .count) e ≡ 0) → at ring (row t + u) ≡ quietly net u t
       go t r b (yes z) =
           let k : s ≡ t = omega arith in
-          let p = w .sources-first i e h l q z (subst (λ x. Asked lab x u) (sym k) b) in
+          let p = w .sources-first i e h l q z (subst (λ x. AskedAt lab x u) (sym k) b) in
           subst (λ x. at ring (row x + u) ≡ quietly net u x) k
-          (subst (λ v. at ring (row s + v) ≡ quietly net v s) (p .holds) (done (p .place) (p .within) (subst (Asked lab s) (sym (p .holds)) (subst (λ x. Asked lab x u) (sym k) b))))
+          (subst (λ v. at ring (row s + v) ≡ quietly net v s) (p .holds) (done (p .place) (p .within) (subst (AskedAt lab s) (sym (p .holds)) (subst (λ x. AskedAt lab x u) (sym k) b))))
       go t r b (no z) = held .past u t (from-node net lab m e l) (omega arith) b (omega (arith, edge-width net (ok .fit) e l))
 
   -- What the gate makes of the cells is the node's value.
   abbrev given : List ℕ → ℕ → ℕ
   given ring v = gate (at (net .kind) v) (map (at ring) (part cells (at first v) (at first (suc v))))
 
-  node-right : (ring : List ℕ) (i : ℕ) → Held net lab s ring → Done i ring → i < n → Asked lab s (at list i) → given ring (at list i) ≡ quietly net (at list i) s
+  node-right : (ring : List ℕ) (i : ℕ) → Held net lab s ring → Done i ring → i < n → AskedAt lab s (at list i) → given ring (at list i) ≡ quietly net (at list i) s
   unfolding sees
   node-right ring i held done h a =
       ap (gate (at (net .kind) v)) (its
@@ -206,15 +205,15 @@ module _ (net : Netlist) (lab : List ℕ) (ok : Steppable net) (m : Labelled net
       x : ℕ
       x = given ring v
 
-      stays : (u t : ℕ) → u < net .nodes → t < s → Asked lab t u → min s (16384 - at lab u) ≤ t + 32 → ¬ (row t + u ≡ here)
+      stays : (u t : ℕ) → u < net .nodes → t < s → AskedAt lab t u → min s (16384 - at lab u) ≤ t + 32 → ¬ (row t + u ≡ here)
       stays u t k a b c q =
           let z = apart t s u v (omega (arith, low-nodes net lab m)) low q in
           omega (arith, z .0, ap (at lab) (z .1), near i h)
 
-      last : (j : ℕ) → j < suc i → Asked lab s (at list j) → Dec (at list j ≡ v) → Dec (j ≡ i) → at (set ring here x) (row s + at list j) ≡ quietly net (at list j) s
+      last : (j : ℕ) → j < suc i → AskedAt lab s (at list j) → Dec (at list j ≡ v) → Dec (j ≡ i) → at (set ring here x) (row s + at list j) ≡ quietly net (at list j) s
       last j k a (yes z) d =
           subst (λ u. at (set ring here x) (row s + u) ≡ quietly net u s) (sym z)
-          (getD-set-same ring here x 0 (let y : here < length ring = omega (arith, low, held .size) in y) ∙ node-right ring i held done h (subst (Asked lab s) z a))
+          (getD-set-same ring here x 0 (let y : here < length ring = omega (arith, low, held .size) in y) ∙ node-right ring i held done h (subst (AskedAt lab s) z a))
       last j k a (no z) (yes d) = absurd (z (ap (at list) d))
       last j k a (no z) (no d) =
           getD-set-other ring here (row s + at list j) x 0 (let y : ¬ (row s + at list j ≡ here) = λ q. z (omega arith) in y) ∙ done j (omega arith) a
@@ -231,9 +230,9 @@ module _ (net : Netlist) (lab : List ℕ) (ok : Steppable net) (m : Labelled net
       r : Held net lab s new × Done n new
       r = subst (λ x. Held net lab s x × Done n x) (sym q) (held-all ring held n (omega arith))
 
-      go : (v t : ℕ) → v < net .nodes → t < s + 1 → Asked lab t v → min (s + 1) (16384 - at lab v) ≤ t + 32 → Dec (t ≡ s) → at new (row t + v) ≡ quietly net v t
+      go : (v t : ℕ) → v < net .nodes → t < s + 1 → AskedAt lab t v → min (s + 1) (16384 - at lab v) ≤ t + 32 → Dec (t ≡ s) → at new (row t + v) ≡ quietly net v t
       go v t h a b c (yes z) =
-          let p = w .every v h (subst (λ x. Asked lab x v) z b) in
+          let p = w .every v h (subst (λ x. AskedAt lab x v) z b) in
           subst (λ x. at new (row x + v) ≡ quietly net v x) (sym z)
-          (subst (λ u. at new (row s + u) ≡ quietly net u s) (p .holds) (r .1 (p .place) (p .within) (subst (Asked lab s) (sym (p .holds)) (subst (λ x. Asked lab x v) z b))))
+          (subst (λ u. at new (row s + u) ≡ quietly net u s) (p .holds) (r .1 (p .place) (p .within) (subst (AskedAt lab s) (sym (p .holds)) (subst (λ x. AskedAt lab x v) z b))))
       go v t h a b c (no z) = r .0 .past v t h (omega arith) b (omega arith)

@@ -3,7 +3,6 @@
 --   keeping-none        of none yet
 --   keeping-like        of equal lists
 --   keeping-hit, keeping-miss    one further: it has the property, or not
--- Assumes nothing.
 use Prim.Native.Nat.{ℕ, suc, _+_, _≤_, _<_}
 use native.Mathlib.Omega.{arith}
 use native.Mathlib.Numerals.{add-one}
@@ -13,8 +12,8 @@ use mathlib.Core.List.{List}
 use lib.ListN.{length, set, length-set}
 use lib.Seq.{getD-set-same, getD-set-other}
 use Rattle.graph.specs.Columns.{at}
-use Rattle.graph.specs.Sort.{Stands}
-use Rattle.starts.specs.Ring.{KeptAt, Kept}
+use Rattle.graph.specs.inner.Sort.{Stands}
+use Rattle.starts.specs.inner.Ring.{KeptAt, Kept}
 
 pub record Keeping (P : ℕ → Type 0) (old : List ℕ) (i : ℕ) (new : List ℕ) (r : ℕ) : Type 0 where
   pub size : length new ≡ length old

@@ -3,22 +3,21 @@
 --   listed-start        all nodes in evaluation order
 --   listed-next         for the next clock
 --   Refreshed, refreshed    looked through
--- Assumes nothing.
 use Prim.Native.Nat.{ℕ, _+_, _*_, _/_, _%_, _<_, _≤_}
 use native.Mathlib.Omega.{arith}
 use mathlib.Core.Path.{_≡_, refl, sym, _∙_, subst}
 use mathlib.Core.Logic.{_⊎_, inl, inr}
 use mathlib.Core.List.{List}
 use Rattle.graph.specs.Columns.{at}
-use Rattle.graph.specs.Sort.{Stands, Ordered}
+use Rattle.graph.specs.inner.Sort.{Stands, Ordered}
 use Rattle.netlist.specs.declared.Netlist.{Netlist}
-use Rattle.starts.specs.Ring.{Asked, Kept}
+use Rattle.starts.specs.inner.Ring.{AskedAt, Kept}
 
 pub record Listed (net : Netlist) (lab : List ℕ) (s : ℕ) (list : List ℕ) (n : ℕ) : Type 0 where
   pub few : n ≤ net .nodes
   pub nodes-only : (i : ℕ) → i < n → at list i < net .nodes
-  pub every : (v : ℕ) → v < net .nodes → Asked lab s v → Stands list n v
-  pub sources-first : (i e : ℕ) → i < n → e < net .edges → at (net .to) e ≡ at list i → at (net .count) e ≡ 0 → Asked lab s (at (net .from) e) → Stands list i (at (net .from) e)
+  pub every : (v : ℕ) → v < net .nodes → AskedAt lab s v → Stands list n v
+  pub sources-first : (i e : ℕ) → i < n → e < net .edges → at (net .to) e ≡ at list i → at (net .count) e ≡ 0 → AskedAt lab s (at (net .from) e) → Stands list i (at (net .from) e)
 
 pub listed-start : (net : Netlist) (lab list : List ℕ) → Ordered (net .nodes) (net .edges) (net .from) (net .to) (net .count) list → Listed net lab 0 list (net .nodes)
 listed-start net lab list o = record {
@@ -45,7 +44,7 @@ pub record Refreshed (net : Netlist) (lab : List ℕ) (s : ℕ) (list : List ℕ
 
 pub refreshed : (net : Netlist) (lab : List ℕ) (s : ℕ) (list : List ℕ) (n : ℕ) (new : List ℕ) (r : ℕ) → Listed net lab s list n
     → ((i : ℕ) → i < n → 0 < s % 32 → s / 32 * 32 + at lab (at list i) < 16384)
-    → ((0 < s % 32) × (r ≡ n) × (new ≡ list)) ⊎ Kept (Asked lab s) list n new r → Refreshed net lab s list n new r
+    → ((0 < s % 32) × (r ≡ n) × (new ≡ list)) ⊎ Kept (AskedAt lab s) list n new r → Refreshed net lab s list n new r
 refreshed net lab s list n new r w near (inl c) =
     rw (c .1, c .2) (record { listed = w; near = λ i h. near i h (c .0); from = λ i h. (i, h, refl) })
 refreshed net lab s list n new r w near (inr k) = record {
@@ -54,12 +53,12 @@ refreshed net lab s list n new r w near (inr k) = record {
     nodes-only = λ i h. let a = k .each i h in subst (λ v. v < net .nodes) (a .same) (w .nodes-only (a .place) (a .within));
     every = λ v h a.
         let p = w .every v h a in
-        let q = k .every (p .place) (p .within) (subst (Asked lab s) (sym (p .holds)) a) in
+        let q = k .every (p .place) (p .within) (subst (AskedAt lab s) (sym (p .holds)) a) in
         record { place = q .place; within = q .within; holds = q .holds ∙ p .holds };
     sources-first = λ i e h l q z a.
         let b = k .each i h in
         let p = w .sources-first (b .place) e (b .within) l (q ∙ sym (b .same)) z a in
-        let c = b .before (p .place) (p .within) (subst (Asked lab s) (sym (p .holds)) a) in
+        let c = b .before (p .place) (p .within) (subst (AskedAt lab s) (sym (p .holds)) a) in
         record { place = c .place; within = c .within; holds = c .holds ∙ p .holds };
   };
   near = λ i h. omega (arith, k .each i h .has);

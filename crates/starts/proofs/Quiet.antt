@@ -1,7 +1,6 @@
 -- New start values: chosen, or what the edge shows in the original with all inputs at 0.
 --   new-chosen          the chosen ones are digits of the choice's number
 --   new-seen            the others are what the edge shows in the original, r(v) clocks earlier
--- Assumes nothing.
 use Prim.Native.Nat.{ℕ, _+_, _<_}
 use native.Mathlib.Omega.{arith}
 use mathlib.Core.Path.{_≡_, ap}

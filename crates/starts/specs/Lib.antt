@@ -1,3 +1,2 @@
--- The original on zeros, in a ring; the new start values, read off it.
-pub mod Ring
-pub mod Starts
+-- Nobody outside has to believe anything of this crate: all is what functions promise each other.
+pub mod inner

@@ -14,9 +14,9 @@ ghost use mathlib.Core.Logic.{_⊎_};
 ghost use Prim.Native.Nat.{ℕ, _+_, _%_, _<_, _≤_};
 ghost use lib.ListN.{length};
 ghost use Rattle.graph.specs.Columns.{at};
-ghost use Rattle.simulate.specs.Ran.{Steppable};
-ghost use Rattle.moves.specs.Labels.{Labelled};
-ghost use Rattle.starts.specs.Ring.{Asked, Followed, Empty, cellOf, Puts, CellsOf, Cellable, CellableOf, Kept};
+ghost use Rattle.simulate.specs.inner.Ran.{Steppable};
+ghost use Rattle.moves.specs.inner.Labels.{Labelled};
+ghost use Rattle.starts.specs.inner.Ring.{AskedAt, Followed, Empty, cellOf, Puts, CellsOf, Cellable, CellableOf, Kept};
 
 // A label is 16,384 and the lag.
 const BIAS: usize = 16384;
@@ -130,7 +130,7 @@ fn turn<'a>(
 // The nodes of the list that are asked for at clock s: those whose lag is below −s. They stay in their order: how many.
 fn keep_asked(lab: &[u32], s: usize, list: &mut [u16], n: usize) -> usize
     requires { ⌜ (s < 16384) × (n ≤ length (now list)) × ((i : ℕ) → i < n → at (now list) i < length (now lab)) ⌝ }
-    ensures { λ r. ⌜ Kept (Asked (now (lab .entry)) s) (now (list .entry)) n (now (list .exit)) r ⌝ }
+    ensures { λ r. ⌜ Kept (AskedAt (now (lab .entry)) s) (now (list .entry)) n (now (list .exit)) r ⌝ }
 {
     let mut kept = 0;
     let mut i = 0;
@@ -148,7 +148,7 @@ fn keep_asked(lab: &[u32], s: usize, list: &mut [u16], n: usize) -> usize
 // The list for clock s. Every 32 clocks it is looked through for nodes that are asked for no more.
 fn refresh(lab: &[u32], s: usize, list: &mut [u16], n: usize) -> usize
     requires { ⌜ (s < 16384) × (n ≤ length (now list)) × ((i : ℕ) → i < n → at (now list) i < length (now lab)) ⌝ }
-    ensures { λ r. ⌜ ((0 < s % 32) × (r ≡ n) × (now (list .exit) ≡ now (list .entry))) ⊎ Kept (Asked (now (lab .entry)) s) (now (list .entry)) n (now (list .exit)) r ⌝ }
+    ensures { λ r. ⌜ ((0 < s % 32) × (r ≡ n) × (now (list .exit) ≡ now (list .entry))) ⊎ Kept (AskedAt (now (lab .entry)) s) (now (list .entry)) n (now (list .exit)) r ⌝ }
 {
     if 0 < s % 32 {
         return n;

@@ -9,11 +9,12 @@ ghost use Prim.Native.Nat.{ℕ, _+_, _*_, _-_, _^_, _≤_, _<_};
 ghost use lib.ListN.{length};
 ghost use Rattle.theory.specs.Move.{digit};
 ghost use Rattle.graph.specs.Columns.{at};
-ghost use Rattle.gates.specs.Gates.{AllBits};
-ghost use Rattle.moves.specs.Labels.{lagsOf};
-ghost use Rattle.moves.specs.Moving.{Moving};
-ghost use Rattle.moves.specs.Moved.{wordOf, movedNet, Filled, none, withColumns};
-ghost use Rattle.starts.specs.Starts.{chosenWord, shownCell, startsAt};
+ghost use Rattle.gates.specs.inner.Gates.{AllBits};
+ghost use Rattle.moves.specs.inner.Labels.{lagsOf};
+ghost use Rattle.moves.specs.inner.Moving.{Moving};
+ghost use Rattle.moves.specs.Moved.{wordOf, movedNet};
+ghost use Rattle.moves.specs.inner.Columns.{Filled, none, withColumns};
+ghost use Rattle.starts.specs.inner.Starts.{chosenWord, shownCell, startsAt};
 
 // A label is 16,384 and the lag.
 const BIAS: usize = 16384;

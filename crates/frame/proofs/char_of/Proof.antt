@@ -1,5 +1,4 @@
 -- `frame::char_of` meets its contract.
--- Assumes nothing.
 use native.Mathlib.Omega.{arith}
 use borrow.Author.Tests.{lt-ltb, le-ltb}
 use Rattle.frame.specs.Frame.{charOf}

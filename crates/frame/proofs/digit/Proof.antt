@@ -1,5 +1,4 @@
 -- `frame::digit` meets its contract: the tests of the code, in its order, are those of `digitOf`.
--- Assumes nothing.
 use native.Mathlib.Omega.{arith}
 use borrow.Author.Tests.{le-leb, lt-leb}
 use Rattle.frame.specs.Frame.{digitOf}

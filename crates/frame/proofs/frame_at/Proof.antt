@@ -1,10 +1,9 @@
 -- `frame::frame_at` meets its contract: no line is longer than 16 bytes and its kind, none passes the end of the text, and the kind's byte is read first.
--- Assumes nothing.
 use mathlib.Core.Path.{sym, _∙_}
 use native.Mathlib.Omega.{arith}
 use lib.ListN.{drop, length-drop}
 use borrow.Author.Tests.{lt-leb}
-use Rattle.frame.specs.Decoded.{framed}
+use Rattle.frame.specs.inner.Decoded.{framed}
 use Rattle.frame.proofs.Steps.{frame-short, framed-as, kind-same, kind-other}
 use borrow.Author.Needs.{needs}
 use Rattle.frame.proofs.frame_at.Statement.{statement}

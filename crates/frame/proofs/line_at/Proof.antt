@@ -1,12 +1,11 @@
 -- `frame::line_at` meets its contract. The loop's invariant: the bytes decoded so far, filled up with those of the rest of the line, are the line's.
--- Assumes nothing.
 use Prim.Native.Nat.{ℕ, _+_, _*_, _-_, _≤_}
 use mathlib.Core.Path.{_≡_, ap, ap₂, sym, _∙_}
 use mathlib.Core.List.{List}
 use native.Mathlib.Omega.{arith}
 use lib.ListN.{drop, set}
 use Rattle.frame.specs.Frame.{lineAt}
-use Rattle.frame.specs.Decoded.{decoded}
+use Rattle.frame.specs.inner.Decoded.{decoded}
 use Rattle.frame.proofs.Steps.{fill, fill-zeros, turn, turn-none, end-feed, end-none}
 use borrow.Author.Needs.{needs}
 use Rattle.frame.proofs.line_at.Statement.{statement}

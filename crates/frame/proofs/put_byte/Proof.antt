@@ -1,5 +1,4 @@
 -- `frame::put_byte` meets its contract.
--- Assumes nothing.
 use native.Mathlib.Omega.{arith}
 use native.Mathlib.Numerals.{add-one}
 use lib.ListN.{length-set}

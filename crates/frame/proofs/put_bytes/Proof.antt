@@ -1,5 +1,4 @@
 -- `frame::put_bytes` meets its contract. The loop's invariant: the digits of the first `i` bytes stand in `out`, and nothing else has changed.
--- Assumes nothing.
 use mathlib.Core.Path.{_≡_, refl, ap, _∙_}
 use mathlib.Core.List.{_∷_, []}
 use Prim.Native.Nat.{_+_, _*_, _-_, _≤_, _<_}

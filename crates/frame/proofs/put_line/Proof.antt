@@ -1,5 +1,4 @@
 -- `frame::put_line` meets its contract. `m` is `n`, or 16 where `n` is more: either way the first `m` bytes are the first `n`.
--- Assumes nothing.
 use mathlib.Core.Path.{_≡_, ap, sym, _∙_}
 use mathlib.Core.Logic.{⊎-elim}
 use Prim.Native.Nat.{_+_, _*_, _≤_, _<_}
@@ -7,8 +6,7 @@ use native.Mathlib.Omega.{arith}
 use lib.ListN.{length, take, set}
 use lib.Seq.{length-take-le}
 use borrow.Author.Needs.{needs}
-use Rattle.frame.specs.Frame.{lineOf}
-use Rattle.frame.specs.Decoded.{placed}
+use Rattle.frame.specs.Frame.{lineOf, placed}
 use Rattle.frame.proofs.Steps.{put-end, put-full, take-same}
 use Rattle.frame.proofs.put_line.Statement.{statement}
 use Rattle.frame.proofs.put_line.Tie as tie

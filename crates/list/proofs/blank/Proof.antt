@@ -1,5 +1,4 @@
 -- `list::blank` meets its contract.
--- Assumes nothing.
 use mathlib.Core.Path.{refl}
 use Rattle.netlist.specs.Net.{zeros}
 use Rattle.list.proofs.blank.Statement.{statement}

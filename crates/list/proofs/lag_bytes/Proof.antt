@@ -1,5 +1,4 @@
 -- `list::lag_bytes` meets its contract: each byte is the definition's.
--- Assumes nothing.
 use borrow.Author.Needs.{needs}
 use Rattle.frame.specs.Frame.{bytesOf}
 use Rattle.list.proofs.lag_bytes.Statement.{statement}

@@ -1,5 +1,4 @@
 -- `list::lag_word` meets its contract.
--- Assumes nothing.
 use Prim.Native.Nat.{_+_, _-_, _%_}
 use mathlib.Core.Path.{_≡_, ap}
 use native.Mathlib.Omega.{arith}

@@ -1,5 +1,4 @@
 -- `list::list` meets its contract.
--- Assumes nothing.
 use mathlib.Core.Path.{_≡_}
 use native.Mathlib.Omega.{arith}
 use borrow.Author.Needs.{needs}

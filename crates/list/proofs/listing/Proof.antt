@@ -1,5 +1,4 @@
 -- `list::listing` meets its contract: there is room for all that is printed of 32,768 bytes, and more decides nothing.
--- Assumes nothing.
 use mathlib.Core.Path.{_≡_, sym, ap}
 use native.Mathlib.Omega.{arith}
 use borrow.Author.Needs.{needs}

@@ -1,5 +1,4 @@
 -- `list::put_lag_lines` meets its contract. The loop's invariant: the lines of the nodes below v stand at `at0`, and the cursor is behind them.
--- Assumes nothing.
 use Prim.Native.Nat.{_+_, _-_, _*_, _≤_}
 use mathlib.Core.Path.{_≡_, ap, ap₂, _∙_}
 use mathlib.Core.List.{[], _∷_, _++_}
@@ -11,8 +10,7 @@ use mir.Val.{toZ, ofZ}
 use mir.Facts.{toZ-ofZ}
 use lib.Seq.{sets, length-sets}
 use borrow.Author.Needs.{needs}
-use Rattle.frame.specs.Frame.{bytesOf, lineOf}
-use Rattle.frame.specs.Decoded.{placed}
+use Rattle.frame.specs.Frame.{bytesOf, lineOf, placed}
 use Rattle.netlist.specs.Write.{joined}
 use Rattle.netlist.proofs.Written.{length-joined, put-more}
 use Rattle.list.specs.Listed.{twos, lagLine}

@@ -1,5 +1,4 @@
 -- `listings::next` ends and stays within its buffers.
--- Assumes nothing.
 use mathlib.Core.Path.{sym}
 use native.Mathlib.Omega.{arith}
 use lib.Seq.{length-take-le}

@@ -3,15 +3,14 @@
 --   cut-clean           and these are all of it, where its other rows are 0
 --   fault-lines         a text with a fault is refused so
 --   lines-fact, fault-fact, fault-place
--- Assumes nothing.
 use Prim.Native.Nat.{ℕ, suc, _+_, _-_, _<_}
 use native.Mathlib.Omega.{arith}
 use mathlib.Core.Path.{_≡_, refl, sym, ap, _∙_, subst, subst₂}
 use mathlib.Core.List.{List, [], _∷_, _++_, append-nil}
 use Rattle.frame.specs.Frame.{numberAt}
 use Rattle.netlist.specs.declared.Netlist.{Netlist}
-use Rattle.netlist.specs.Answer.{Says, line as at-line}
-use Rattle.netlist.specs.Read.{Lines, fault, lines, ends, linesOf, nodesFrom, edgesFrom}
+use Rattle.netlist.specs.Answer.{Said, atLine as at-line}
+use Rattle.netlist.specs.Read.{Lines, fault, lines, nothingMore, linesOf, nodesFrom, edgesFrom}
 use Rattle.netlist.specs.Write.{textOf}
 use Rattle.netlist.specs.Theorems.{FitTo, Fit, Clean, toNode, toEdge, FaultAt, head-frame, head-range, node-frame, node-rule, edge-frame, edge-rule, surplus, LinesFact, FaultFact, FaultPlace}
 use Rattle.netlist.proofs.Fits.{clash}
@@ -71,7 +70,7 @@ module _ (net : Netlist) (rest : List ℕ) where
       → linesOf (toEdge net e ++ rest) ≡ edgesFrom (suc (net .edges - suc e)) e (net .nodes + e + 2) rest (cut net (net .nodes) e)
   at-edge e f l = run-edges net e (suc (net .edges - suc e)) (omega arith) f rest
 
-ends-more : (n : ℕ) (net : Netlist) (rest : List ℕ) → ¬ (rest ≡ []) → ends rest n net ≡ fault (at-line 1 n)
+ends-more : (n : ℕ) (net : Netlist) (rest : List ℕ) → ¬ (rest ≡ []) → nothingMore rest n net ≡ fault (at-line 1 n)
 ends-more n net [] h = absurd (h refl)
 ends-more n net (c ∷ l) h = refl
 
@@ -91,7 +90,7 @@ fault-lines (surplus net rest f q p) = ap linesOf q ∙ run-edges net (net .edge
 pub fault-fact : FaultFact
 fault-fact t q n = (account-wrong (account t), fault-lines)
 
-account-place : {t : List ℕ} {x : Lines} {s : Says} → Account t x → x ≡ fault s → (q : ℕ) × (n : ℕ) × (s ≡ at-line q n) × FaultAt t q n
+account-place : {t : List ℕ} {x : Lines} {s : Said} → Account t x → x ≡ fault s → (q : ℕ) × (n : ℕ) × (s ≡ at-line q n) × FaultAt t q n
 account-place (right n f c p) e = clash (cc)
 account-place (wrong q n f) e = (q, n, cc, f)
 

@@ -1,7 +1,6 @@
 -- "more decides nothing": no line is looked at past byte 25,105, and a text that goes on there is refused, at the same line however it goes on.
 --   edges-longer, nodes-longer, lines-longer    the lines of a text that is long enough, where it goes on
 --   more-decides-nothing
--- Assumes nothing.
 use Prim.Native.Nat.{ℕ, zero, suc, _+_, _*_, _<_, _≤_}
 use native.Mathlib.Omega.{arith}
 use native.Mathlib.Decide.{decLe}
@@ -13,7 +12,7 @@ use lib.Seq.{take-all, length-take-le}
 use Rattle.frame.specs.Frame.{Line, bad, line, onLine, frameAt, lineOf, numberAt}
 use Rattle.frame.proofs.Laws.{behind, length-line, frame-rest, frame-longer}
 use Rattle.netlist.specs.declared.Netlist.{Netlist}
-use Rattle.netlist.specs.Answer.{Says, line as at-line}
+use Rattle.netlist.specs.Answer.{Said, atLine as at-line}
 use Rattle.netlist.specs.Net.{withHead, withNode, withEdge, graphOf}
 use Rattle.netlist.specs.Read.{Lines, fault, edgesFrom, nodesFrom, linesOf, Reads, faulty, judged}
 use Rattle.rules.specs.Rules.{headFits, nodeFits, edgeFits}
@@ -61,7 +60,7 @@ lines-longer t z h =
     nodes-longer (numberAt 3 2 bs) 0 2 rest z (withHead (numberAt 0 2 bs) (numberAt 2 1 bs) (numberAt 3 2 bs) (numberAt 5 2 bs)) (omega arith))
 
 -- Reading looks at the lines alone.
-reads-by : {t t′ : List ℕ} {s : Says} {net : Netlist} → linesOf t ≡ linesOf t′ → Reads t s net → Reads t′ s net
+reads-by : {t t′ : List ℕ} {s : Said} {net : Netlist} → linesOf t ≡ linesOf t′ → Reads t s net → Reads t′ s net
 reads-by q (faulty p e) = faulty (sym q ∙ p) e
 reads-by q (judged r p j e) = judged r (sym q ∙ p) j e
 

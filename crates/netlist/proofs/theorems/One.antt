@@ -1,6 +1,5 @@
 -- A text has one outcome at most, and a record one writing.
 --   one-reading, one-writing
--- Assumes nothing.
 use mathlib.Core.Path.{_≡_, sym, ap, _∙_}
 use lib.ListN.{length}
 use Rattle.netlist.specs.Answer.{andThen, needs, holds}

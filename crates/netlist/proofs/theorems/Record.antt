@@ -4,7 +4,6 @@
 --   head-right          where no line has a fault, the head is in its ranges
 --   cut-same            the rows that are read back are the netlist's
 --   record-faults, record-fact, record-judged
--- Assumes nothing.
 use Prim.Native.Nat.{ℕ, _+_, _<_}
 use native.Mathlib.Omega.{arith}
 use mathlib.Core.Path.{_≡_, refl, sym, ap, _∙_, subst, subst₂}
@@ -14,7 +13,7 @@ use mathlib.Core.List.{_++_, append-assoc}
 use lib.ListN.{getD}
 use Rattle.frame.specs.Frame.{frameAt}
 use Rattle.netlist.specs.declared.Netlist.{Netlist}
-use Rattle.netlist.specs.Answer.{Says, line as at-line}
+use Rattle.netlist.specs.Answer.{Said, atLine as at-line}
 use Rattle.netlist.specs.Read.{fault, lines, linesOf, All, Lowest, Judged, kept, Reads, judged}
 use Rattle.netlist.specs.Write.{headLine, nodeLine, edgeLine, joined, textOf}
 use Rattle.netlist.specs.Theorems.{FitTo, Fit, FaultAt, head-range, node-rule, edge-rule, Same, Typed, RecordFault, bad-head, bad-node, bad-edge, RecordFaults, RecordFact, RecordJudged}
@@ -162,7 +161,7 @@ record-fact net t =
     (λ n p. never-one (record-faults net t 1 n .0 p) refl, ((λ b. only-fit net t o (b .1)), again), λ back p. (back-same (only-fit net t o p) p, lines-fact (textOf net) back .0 p .1))
 
 -- What is said of a record is said of the rows that are read back: they are the same netlist, so the rules hold of both or of neither (`judged-same`).
-pub reads-record : (net : Netlist) → Fit net → {s : Says} → Judged net s → Reads (textOf net) s (kept s (cut net (net .nodes) (net .edges)))
+pub reads-record : (net : Netlist) → Fit net → {s : Said} → Judged net s → Reads (textOf net) s (kept s (cut net (net .nodes) (net .edges)))
 reads-record net f j = judged (cut net (net .nodes) (net .edges)) (text-lines net f) (judged-same (fit-wired net f) (cut-same net f) j) refl
 
 -- The rules say something of the record (`judge`), and what reading says is that.

@@ -1,40 +1,39 @@
 -- Of a text whose lines have no fault: each of 5, 6, 7 and success is said exactly when its fact holds and no earlier one does.
 --   five-fact, six-fact, seven-fact, none-fact    what is said names its fact: the other facts say other things
 --   refusal-facts
--- Assumes nothing.
 use Prim.Native.Nat.{ℕ}
 use mathlib.Core.Path.{_≡_, refl, subst}
 use Rattle.theory.specs.Walk.{Loop}
 use Rattle.netlist.specs.declared.Netlist.{Netlist}
-use Rattle.netlist.specs.Answer.{Says, value, whole, node}
+use Rattle.netlist.specs.Answer.{Said, value, whole, atNode}
 use Rattle.netlist.specs.Net.{graphOf, regsOf}
-use Rattle.netlist.specs.Read.{FanIn, Joined, All, Lowest, Judged, five, six, seven, sound}
+use Rattle.netlist.specs.Read.{FanInFits, InReach, All, Lowest, Judged, five, six, seven, sound}
 use Rattle.netlist.specs.Theorems.{RefusalFacts}
 use Rattle.netlist.proofs.Fits.{clash}
 use Rattle.netlist.proofs.Judged.{one-judged, reads-judged}
 
-module _ {read : Netlist} {s : Says} where
-  five-fact : Judged read s → (v : ℕ) → s ≡ node 5 v → Lowest (FanIn (graphOf read)) (read .nodes) v
-  five-fact (five w l q) v p = let e : w ≡ v = cc in subst (Lowest (FanIn (graphOf read)) (read .nodes)) e l
+module _ {read : Netlist} {s : Said} where
+  five-fact : Judged read s → (v : ℕ) → s ≡ atNode 5 v → Lowest (FanInFits (graphOf read)) (read .nodes) v
+  five-fact (five w l q) v p = let e : w ≡ v = cc in subst (Lowest (FanInFits (graphOf read)) (read .nodes)) e l
   five-fact (six a o q) v p = clash (cc)
   five-fact (seven a o w l q) v p = clash (cc)
   five-fact (sound a o j q) v p = clash (cc)
 
-  six-fact : Judged read s → s ≡ whole 6 → All (FanIn (graphOf read)) (read .nodes) × Loop (graphOf read) (regsOf read .count)
+  six-fact : Judged read s → s ≡ whole 6 → All (FanInFits (graphOf read)) (read .nodes) × Loop (graphOf read) (regsOf read .count)
   six-fact (five w l q) p = clash (cc)
   six-fact (six a o q) p = (a, o)
   six-fact (seven a o w l q) p = clash (cc)
   six-fact (sound a o j q) p = clash (cc)
 
-  seven-fact : Judged read s → (v : ℕ) → s ≡ node 7 v
-      → All (FanIn (graphOf read)) (read .nodes) × (¬ Loop (graphOf read) (regsOf read .count)) × Lowest (Joined (graphOf read)) (read .nodes) v
+  seven-fact : Judged read s → (v : ℕ) → s ≡ atNode 7 v
+      → All (FanInFits (graphOf read)) (read .nodes) × (¬ Loop (graphOf read) (regsOf read .count)) × Lowest (InReach (graphOf read)) (read .nodes) v
   seven-fact (five w l q) v p = clash (cc)
   seven-fact (six a o q) v p = clash (cc)
-  seven-fact (seven a o w l q) v p = let e : w ≡ v = cc in (a, o, subst (Lowest (Joined (graphOf read)) (read .nodes)) e l)
+  seven-fact (seven a o w l q) v p = let e : w ≡ v = cc in (a, o, subst (Lowest (InReach (graphOf read)) (read .nodes)) e l)
   seven-fact (sound a o j q) v p = clash (cc)
 
   pub none-fact : Judged read s → s ≡ value 0
-      → All (FanIn (graphOf read)) (read .nodes) × (¬ Loop (graphOf read) (regsOf read .count)) × All (Joined (graphOf read)) (read .nodes)
+      → All (FanInFits (graphOf read)) (read .nodes) × (¬ Loop (graphOf read) (regsOf read .count)) × All (InReach (graphOf read)) (read .nodes)
   none-fact (five w l q) p = clash (cc)
   none-fact (six a o q) p = clash (cc)
   none-fact (seven a o w l q) p = clash (cc)

@@ -2,7 +2,6 @@
 --   all-written         where writing refuses nothing, reading refused nothing, and the whole text was written: there is room
 --   same-text           the text is that of the head, the nodes and the edges
 --   round-trip-text, round-trip-netlist, record-rows-unread
--- Assumes nothing.
 use Prim.Native.Nat.{ℕ, _≤_}
 use mathlib.Core.Path.{_≡_, refl, sym, ap, ap₂, _∙_, subst, subst₂}
 use mathlib.Core.Bool.{Bool, true, false, cond}
@@ -12,7 +11,7 @@ use lib.ListN.{length, take, drop}
 use lib.Seq.{take-append-seam}
 use borrow.Author.Tests.{le-ltb, ltb-false}
 use Rattle.netlist.specs.declared.Netlist.{Netlist}
-use Rattle.netlist.specs.Answer.{Says, value, refused, whole, andThen, needs, holds}
+use Rattle.netlist.specs.Answer.{Said, value, refused, whole, andThen, needs, holds}
 use Rattle.netlist.specs.Read.{Judged, five, six, seven, sound, Reads}
 use Rattle.netlist.specs.Write.{headLine, nodeLine, edgeLine, joined, textOf}
 use Rattle.netlist.specs.Theorems.{Clean, Same, RoundTripText, RoundTripNetlist, RecordRowsUnread}
@@ -36,7 +35,7 @@ round-trip-text t net old s new r room w =
 
 -- ── Written and read ────────────────────────────────────────────────────────────────────────
 
-pub all-written : (c : Says) (n m k : ℕ) → value k ≡ andThen c (needs n m) → (i : ℕ) × (c ≡ value i) × (k ≡ n) × (n ≤ m)
+pub all-written : (c : Said) (n m k : ℕ) → value k ≡ andThen c (needs n m) → (i : ℕ) × (c ≡ value i) × (k ≡ n) × (n ≤ m)
 all-written (value i) n m k q = let r = go (ltb m n) refl q in (i, refl, r .0, r .1)
   where
     go : (b : Bool) → ltb m n ≡ b → value k ≡ cond b (whole 12) (value n) → (k ≡ n) × (n ≤ m)

@@ -2,7 +2,6 @@
 --   fault-refuses       a line's fault is a refusal
 --   reads-value         so a reading that refuses nothing is of lines that have no fault
 --   read-is-sound
--- Assumes nothing.
 use Prim.Native.Nat.{ℕ}
 use native.Mathlib.Omega.{arith}
 use mathlib.Core.Path.{_≡_, refl, sym, ap, _∙_, subst}

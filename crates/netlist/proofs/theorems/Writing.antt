@@ -1,6 +1,5 @@
 -- A record's own writing: there is one, and it refuses nothing exactly where the record keeps the rules and there is room.
 --   some-writing, sound-written
--- Assumes nothing.
 use Prim.Native.Nat.{ℕ, _≤_}
 use mathlib.Core.Path.{refl, sym, ap, subst, subst₂}
 use mathlib.Core.List.{List, _++_}

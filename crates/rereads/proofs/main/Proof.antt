@@ -1,5 +1,4 @@
 -- `rereads::main` ends: it counts the texts up to 65,536.
--- Assumes nothing.
 use Prim.Native.Nat.{_-_, _≤_}
 use borrow.Author.Needs.{needs}
 use Rattle.rereads.proofs.main.Statement.{statement}

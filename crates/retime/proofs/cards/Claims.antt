@@ -3,7 +3,6 @@
 --   limits?             the limits of 9 and 10, and the run of a card that is run
 --   text-claim          what comes of the text
 --   card-claim
--- Assumes nothing.
 use Prim.Native.Nat.{ℕ, _*_, _%_, _<_, _≤_}
 use native.Mathlib.Omega.{arith}
 use mathlib.Core.Path.{_≡_, refl, sym, ap, _∙_, subst}
@@ -29,7 +28,7 @@ use Rattle.rules.specs.Rules.{every}
 use Rattle.netlist.specs.Read.{Reads}
 use Rattle.netlist.specs.Write.{textOf}
 use Rattle.simulate.specs.Clock.{inputs, outputs}
-use Rattle.simulate.specs.Step.{bits}
+use Rattle.simulate.specs.Step.{onlyBits}
 use Rattle.simulate.specs.Run.{clocksFrom, clocks, runSays}
 use Rattle.moves.specs.Moved.{withRegs, movedNet}
 use Rattle.retime.specs.Retime.{NarrowAt, ManyAt, lagTable, wide, startless, moved, eight, found}
@@ -56,7 +55,7 @@ module _ (net : Netlist) where
   few? r = leb (chosenIn (graphOf net) (regsOf net .count) r) 24
 
   abbrev goes? : List ℕ → Bool
-  goes? vectors = every (eqb (length vectors % inputs net) 0 ∷ bits vectors ∷ [])
+  goes? vectors = every (eqb (length vectors % inputs net) 0 ∷ onlyBits vectors ∷ [])
 
   abbrev pub limits? : T.Result → Bool
   limits? (T.back r n c counts words) = eqb (length r) (net .nodes) && (narrow? (tableLag r) && few? (tableLag r))

@@ -4,7 +4,6 @@
 --   graph-is, regs-is, delay-is    its circuit is the theory's
 --   derive              the card as a text
 --   derived             the cards of specs/Card are those of the theory's table
--- Assumes nothing.
 use Prim.Native.Nat.{ℕ, _+_, _*_, _-_, _/_, _<_}
 use native.Mathlib.Omega.{arith}
 use native.Mathlib.Decide.{decLt}
@@ -21,7 +20,7 @@ use Rattle.theory.proofs.cards.Claims as T
 use Rattle.theory.proofs.cards.Table.{in-line}
 use Rattle.theory.proofs.cards.Table as Table
 use Rattle.netlist.specs.declared.Netlist.{Netlist}
-use Rattle.netlist.specs.Answer.{whole, edge}
+use Rattle.netlist.specs.Answer.{whole, atEdge}
 use Rattle.netlist.specs.Net.{zeros, graphOf, regsOf, working, delayOf}
 use Rattle.netlist.specs.Write.{joined, textOf}
 use Rattle.netlist.proofs.Rows.{zeros-at}
@@ -85,7 +84,7 @@ newRegs counts words = record { count = λ e. getD counts e 0; start = λ e k. b
 unfoldable pub resultOf : Netlist → T.Result → Result
 resultOf net (T.back r n c counts words) = back (textOf (withRegs net (newRegs counts words))) r n
 resultOf net T.refused-8 = refuses (whole 8)
-resultOf net (T.refused-9 r e) = refuses (edge 9 e)
+resultOf net (T.refused-9 r e) = refuses (atEdge 9 e)
 resultOf net (T.refused-11 r) = refuses (whole 11)
 resultOf net (T.shows v ins outs) = runs ins outs
 

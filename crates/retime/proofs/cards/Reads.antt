@@ -1,7 +1,6 @@
 -- A test that antt computes and that shows that the text of rows reads.
 --   fed, drained        each node in its turn is entered from a lower one, and leaves for a higher one; so rule 7 holds
 --   reads?, reads-yes
--- Assumes nothing.
 use Prim.Native.Nat.{ℕ, zero, suc, _+_, _-_, _<_, _≤_}
 use native.Mathlib.Omega.{arith}
 use mathlib.Core.Path.{_≡_, refl, _∙_, subst}

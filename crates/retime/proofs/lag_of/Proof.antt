@@ -1,12 +1,11 @@
 -- `retime::lag_of` meets its contract.
--- Assumes nothing.
 use Prim.Native.Nat.{_^_, _<_}
 use mathlib.Core.Path.{_∙_}
 use native.Mathlib.Omega.{arith}
 use borrow.Author.Needs.{needs}
 use mir.Syntax.{w32}
 use mir.Facts.{toZ-pos, toZ-ofZ}
-use Rattle.lags.specs.Lags.{lagOf}
+use Rattle.lags.specs.inner.Lags.{lagOf}
 use Rattle.moves.proofs.Labels.{lag-fits}
 use Rattle.retime.proofs.lag_of.Statement.{statement}
 use Rattle.retime.proofs.lag_of.Tie as tie

@@ -1,5 +1,4 @@
 -- `retime::moved_by` meets its contract.
--- Assumes nothing.
 use Prim.Native.Nat.{ℕ, _≤_, _<_}
 use mathlib.Core.Path.{_≡_, refl, ap, subst}
 use native.Mathlib.Omega.{arith}
@@ -13,9 +12,9 @@ use Rattle.netlist.specs.Net.{graphOf, regsOf}
 use Rattle.theory.specs.Gate.{gate}
 use Rattle.theory.specs.Move.{chosenIn, Best}
 use Rattle.theory.specs.Retimer.{Narrow, TooMany}
-use Rattle.moves.specs.Labels.{lagsOf}
-use Rattle.moves.specs.Moving.{Moving}
-use Rattle.choose.specs.Wires.{Chooses}
+use Rattle.moves.specs.inner.Labels.{lagsOf}
+use Rattle.moves.specs.inner.Moving.{Moving}
+use Rattle.choose.specs.inner.Wires.{Chooses}
 use Rattle.retime.specs.Retime.{wide, many, startless, moved}
 use Rattle.moves.proofs.Labels.{low-edges, wide-edge, wide-none}
 use Rattle.retime.proofs.moved_by.Statement.{statement}

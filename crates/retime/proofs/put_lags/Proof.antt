@@ -1,5 +1,4 @@
 -- `retime::put_lags` meets its contract: the first v lags are put, the others are as they were.
--- Assumes nothing.
 use Prim.Native.Nat.{_+_, _-_, _≤_}
 use mathlib.Core.Path.{_≡_, refl, ap, ap₂, _∙_}
 use mathlib.Core.List.{[], _∷_, _++_}
@@ -10,7 +9,7 @@ use lib.ListN.{length, set, drop, length-append, length-drop}
 use mir.Syntax.{w32}
 use mir.Facts.{toZ-ofZ}
 use Rattle.netlist.specs.Write.{joined}
-use Rattle.moves.specs.Labels.{lagsOf}
+use Rattle.moves.specs.inner.Labels.{lagsOf}
 use Rattle.moves.proofs.Labels.{lag-fits}
 use Rattle.moves.proofs.Rows.{rows-length, rows-more}
 use Rattle.retime.proofs.put_lags.Statement.{statement}

@@ -1,5 +1,4 @@
 -- `retime::retime` meets its contract: the text is read, then 12, 8, 9, 10, 11, and else the moved netlist is written.
--- Assumes nothing.
 use Prim.Native.Nat.{_≤_}
 use mathlib.Core.Path.{_≡_}
 use mathlib.Core.Logic.{inl, inr}
@@ -13,7 +12,7 @@ use Rattle.netlist.proofs.Written.{text-put}
 use Rattle.netlist.proofs.theorems.Sound.{read-is-sound}
 use Rattle.simulate.proofs.Ran.{reads-steppable}
 use Rattle.lags.proofs.Laws.{read-sure}
-use Rattle.moves.specs.Labels.{Labelled}
+use Rattle.moves.specs.inner.Labels.{Labelled}
 use Rattle.retime.proofs.Answers.{retime-stop, reads, retime-short, retime-none, labelled, retime-refused, text-fits, retime-done}
 use Rattle.retime.proofs.retime.Statement.{statement}
 use Rattle.retime.proofs.retime.Tie as tie

@@ -1,7 +1,6 @@
 -- Cards A to J as texts, under one theorem: each row is one test that antt computes, beside the row of the theory's table.
 --   cards-hold
 --   demand-asks         demand 3 is not empty
--- Assumes nothing.
 use native.Mathlib.Omega.{arith}
 use mathlib.Core.Path.{_≡_, refl, sym, ap, subst}
 use lib.ListN.{length, getD}
@@ -17,8 +16,8 @@ use Rattle.netlist.specs.Net.{zeros}
 use Rattle.rules.specs.Rules.{ruleOf, headFits, nodeFits, edgeFits}
 use Rattle.netlist.specs.Write.{joined}
 use Rattle.netlist.proofs.theorems.One.{one-reading}
-use Rattle.simulate.specs.Clock.{before, values, outputValues, wordsAfter}
-use Rattle.simulate.specs.Step.{bits}
+use Rattle.simulate.specs.Clock.{earlier, values, outputValues, wordsAfter}
+use Rattle.simulate.specs.Step.{onlyBits}
 use Rattle.simulate.specs.Run.{clocksFrom}
 use Rattle.retime.specs.Demand.{ComesBack}
 use Rattle.retime.specs.Card.{A, Claim, CardsHold, DemandAsks}
@@ -29,7 +28,7 @@ use Rattle.retime.proofs.theorems.Outcome.{one-outcome}
 use Rattle.retime.proofs.theorems.Demand.{comes-asked, demand-follows}
 
 pub cards-hold : CardsHold
-unfolding netOf zeros ruleOf headFits nodeFits edgeFits sum seenIf seen only gather sees nodeIf valueIn valueOf oneClock joined before values outputValues wordsAfter clocksFrom bits
+unfolding netOf zeros ruleOf headFits nodeFits edgeFits sum seenIf seen only gather sees nodeIf valueIn valueOf oneClock joined earlier values outputValues wordsAfter clocksFrom onlyBits
 cards-hold k h =
     subst Claim (sym (derived k))
     (card-claim (getD Table.cards k first) (all-elim (length Table.cards) (λ j. passes (getD Table.cards j first)) tt k h) (Table.table k h))

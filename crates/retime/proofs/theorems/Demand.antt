@@ -5,7 +5,6 @@
 --   comes-asked         what comes back is asked for
 --   came                what came back
 --   demand-follows, lags-fit
--- Assumes nothing.
 use Prim.Native.Nat.{ℕ, _+_, _<_, _≤_}
 use native.Mathlib.Omega.{arith}
 use native.Mathlib.Decide.{decLe, decLt}
@@ -20,7 +19,8 @@ use Rattle.theory.specs.Clock.{Trace}
 use Rattle.theory.specs.Gate.{gate}
 use Rattle.theory.specs.Lag.{up, down, newCount, Legal}
 use Rattle.theory.specs.Move.{quiet, Carries, choiceOf}
-use Rattle.theory.specs.Retimer.{Sound, Answer, Demand, retimed}
+use Rattle.theory.specs.Retimer.{Sound, retimed}
+use Rattle.theory.specs.inner.Demand.{Solution, Demand}
 use Rattle.theory.proofs.numbers.Whole.{no-up}
 use Rattle.theory.proofs.walks.Walks.{walk-start, walk-shift}
 use Rattle.theory.proofs.walks.Short.{short-walk, few-registers}
@@ -31,7 +31,7 @@ use Rattle.theory.proofs.least.Exists.{least-unique}
 use Rattle.theory.proofs.retimer.Demand.{demand}
 use Rattle.theory.proofs.retimer.Levels.{lag-chosen}
 use Rattle.netlist.specs.declared.Netlist.{Netlist}
-use Rattle.netlist.specs.Answer.{Says, value, holds}
+use Rattle.netlist.specs.Answer.{Said, value, holds}
 use Rattle.netlist.specs.Net.{graphOf, regsOf, delayOf}
 use Rattle.netlist.specs.Read.{Reads}
 use Rattle.netlist.specs.Write.{textOf}
@@ -79,7 +79,7 @@ module _ (t : List ℕ) (net : Netlist) (r : ℕ → ℤ) (c : ℕ) (h : Reads t
   moved-text-reads : Reads (textOf (movedNet net r c)) (value 0) (movedNet net r c)
   moved-text-reads = moved-reads t net r c h (l .feasible .legal) narrow
 
-  pub runs-same : (vectors buffer : List ℕ) (s : Says) (after : List ℕ) → Runs t vectors buffer s after ↔ Runs (textOf (movedNet net r c)) vectors buffer s after
+  pub runs-same : (vectors buffer : List ℕ) (s : Said) (after : List ℕ) → Runs t vectors buffer s after ↔ Runs (textOf (movedNet net r c)) vectors buffer s after
   unfolding movedNet
   runs-same vectors buffer s after = (
     runs-alike t (textOf (movedNet net r c)) net (movedNet net r c) h moved-text-reads refl (λ v hv. refl)
@@ -102,7 +102,7 @@ module _ (t : List ℕ) (net : Netlist) (r : ℕ → ℤ) (c : ℕ) (h : Reads t
 
 -- ── The call ────────────────────────────────────────────────────────────────────────────────
 
-module _ (t out : List ℕ) (lags : List ℤ) (s : Says) (out′ : List ℕ) (lags′ : List ℤ) (net : Netlist) (h : Reads t (value 0) net) (o : Retimes t out lags s out′ lags′) where
+module _ (t out : List ℕ) (lags : List ℤ) (s : Said) (out′ : List ℕ) (lags′ : List ℤ) (net : Netlist) (h : Reads t (value 0) net) (o : Retimes t out lags s out′ lags′) where
   told : Told t out lags s out′ lags′ net
   told = told-of net h o
 
@@ -138,7 +138,7 @@ module _ (t out : List ℕ) (lags : List ℤ) (s : Says) (out′ : List ℕ) (la
       written : End t out lags s out′ lags′ net 5 → ComesBack s
       written (r, l, n, c, b, z, w) = (_, z)
 
-      go : (r : ℕ → ℤ) × (c : ℕ) × Answer gate (graphOf net) (regsOf net) (delayOf net) (net .period) r c → ComesBack s
+      go : (r : ℕ → ℤ) × (c : ℕ) × Solution gate (graphOf net) (regsOf net) (delayOf net) (net .period) r c → ComesBack s
       go (r, c, a) =
           let few = asked .few r (a .least) in
           written (tell t out lags s out′ lags′ net told 5

@@ -3,7 +3,6 @@
 --   moved-regs          its registers are the retimed ones
 --   moved-circuit       so they are those of the paper's three cases, on whatever inputs the original runs
 --   moved-alike         it depends on the lags of the nodes only
--- Assumes nothing.
 use Prim.Native.Nat.{ℕ, _<_}
 use native.Mathlib.Omega.{arith}
 use mathlib.Core.Path.{_≡_, sym, ap, _∙_}
@@ -11,7 +10,8 @@ use mathlib.Core.List.{List}
 use lib.IntN.{ℤ}
 use lib.ListN.{length}
 use Rattle.theory.specs.Graph.{Wired}
-use Rattle.theory.specs.Clock.{SameRegs, Trace}
+use Rattle.theory.specs.inner.Registers.{SameRegs}
+use Rattle.theory.specs.Clock.{Trace}
 use Rattle.theory.specs.Lag.{Legal}
 use Rattle.theory.specs.Move.{Moved, move, choiceOf}
 use Rattle.theory.specs.Gate.{gate}

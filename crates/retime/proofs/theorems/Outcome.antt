@@ -2,7 +2,6 @@
 --   one-outcome
 --   value-zero          a reading that refuses nothing says 0
 --   some-outcome
--- Assumes nothing.
 use Prim.Native.Nat.{ℕ, _<_}
 use native.Mathlib.Omega.{arith}
 use native.Mathlib.Decide.{decLt}
@@ -13,10 +12,10 @@ use lib.IntN.{ℤ}
 use lib.ListN.{length}
 use Rattle.theory.specs.Gate.{gate}
 use Rattle.theory.specs.Move.{chosenIn}
-use Rattle.theory.specs.Retimer.{Verdict, no-retiming, too-wide, too-many, no-start, answered}
+use Rattle.theory.specs.inner.Demand.{Verdict, no-retiming, too-wide, too-many, no-start, answered}
 use Rattle.theory.proofs.retimer.Demand.{demand}
 use Rattle.netlist.specs.declared.Netlist.{Netlist}
-use Rattle.netlist.specs.Answer.{Says, value, refused, whole, edge, holds}
+use Rattle.netlist.specs.Answer.{Said, value, refused, whole, atEdge, holds}
 use Rattle.netlist.specs.Net.{graphOf, regsOf, delayOf}
 use Rattle.netlist.specs.Read.{Judged, five, six, seven, sound, Reads}
 use Rattle.netlist.specs.Write.{textOf}
@@ -59,19 +58,19 @@ value-zero (sound a o j q) = q
 
 module _ (t out : List ℕ) (lags : List ℤ) where
   abbrev Some : Type 0
-  Some = (s : Says) × (out′ : List ℕ) × (lags′ : List ℤ) × Retimes t out lags s out′ lags′
+  Some = (s : Said) × (out′ : List ℕ) × (lags′ : List ℤ) × Retimes t out lags s out′ lags′
 
-  untouched : (x : Says) → Untouched t out lags x out lags x
+  untouched : (x : Said) → Untouched t out lags x out lags x
   untouched x = record { answer = refl; buffer = refl; table = refl }
 
   -- There is room: the theory's verdict.
   module _ (net : Netlist) (h : Reads t (value 0) net) (room : Room t out lags net) where
-    ends : (r : ℕ → ℤ) → LeastLags net r → (s : Says) (new : Netlist) → Moves net r s new → Some
+    ends : (r : ℕ → ℤ) → LeastLags net r → (s : Said) (new : Netlist) → Moves net r s new → Some
     ends r l s new m = (s, holds s (textOf new) out, holds s (lagTable net r) lags, found net h room r l new m (record { buffer = refl; table = refl }))
 
     with-room : Verdict gate (graphOf net) (regsOf net) (delayOf net) (net .period) → Some
     with-room (no-retiming n) = (whole 8, out, lags, eight net h room n (untouched (whole 8)))
-    with-room (too-wide r l e w) = ends r l (edge 9 e) net (wide e w refl)
+    with-room (too-wide r l e w) = ends r l (atEdge 9 e) net (wide e w refl)
     with-room (too-many r l n m) = ends r l (whole 10) net (many n m refl)
     with-room (no-start r l n m x) = ends r l (whole 11) net (startless n m x refl)
     with-room (answered r c x n m) = ends r (x .least) (value (chosenIn (graphOf net) (regsOf net .count) r)) (movedNet net r c) (moved n m c (x .best) refl refl)
@@ -89,6 +88,6 @@ module _ (t out : List ℕ) (lags : List ℤ) where
 pub some-outcome : SomeOutcome
 some-outcome t out lags = go (some-reading t)
   where
-    go : (s : Says) × (net : Netlist) × Reads t s net → Some t out lags
+    go : (s : Said) × (net : Netlist) × Reads t s net → Some t out lags
     go (refused q k p, net, h) = (refused q k p, out, lags, unread q k p net h (untouched t out lags (refused q k p)))
     go (value n, net, h) = reads-some t out lags net (subst (λ x. Reads t x net) (value-zero (reads-value h .1)) h)

@@ -2,7 +2,6 @@
 --   refusal-facts
 --   unread-fact         a text that does not read is refused as reading refuses it
 --   nothing-touched     a refusal leaves all that was lent
--- Assumes nothing.
 use Prim.Native.Nat.{ℕ}
 use native.Mathlib.Omega.{arith}
 use mathlib.Core.Path.{_≡_, ap, _∙_, subst}
@@ -13,7 +12,7 @@ use Rattle.theory.specs.Gate.{gate}
 use Rattle.theory.specs.Retimer.{Sound}
 use Rattle.theory.proofs.least.Exists.{least-unique}
 use Rattle.netlist.specs.declared.Netlist.{Netlist}
-use Rattle.netlist.specs.Answer.{Says, value, refused, whole, edge}
+use Rattle.netlist.specs.Answer.{Said, value, refused, whole, atEdge}
 use Rattle.netlist.specs.Net.{graphOf, regsOf}
 use Rattle.netlist.specs.Read.{Reads}
 use Rattle.netlist.proofs.Fits.{clash}
@@ -24,14 +23,14 @@ use Rattle.retime.specs.Theorems.{RetimeFacts, RefusalFacts, UnreadFact,
 use Rattle.moves.proofs.Lags.{count-alike, chosen-alike, no-start-alike}
 use Rattle.retime.proofs.Ends.{Fact, stageOf, End, Told, stays, told, told-of, tell, told-at, lowest-one, before-8, before-9, before-10, before-11}
 
-module _ (t out : List ℕ) (lags : List ℤ) (s : Says) (out′ : List ℕ) (lags′ : List ℤ) (net : Netlist)
+module _ (t out : List ℕ) (lags : List ℤ) (s : Said) (out′ : List ℕ) (lags′ : List ℤ) (net : Netlist)
     (h : Reads t (value 0) net) (told : Told t out lags s out′ lags′ net) where
   ok : Sound gate (graphOf net) (regsOf net)
   ok = read-is-sound t net h
 
   module _ (room : Room t out lags net) (r : ℕ → ℤ) (l : LeastLags net r) where
     -- An edge that is too wide is the one that 9 names.
-    nine-says : (e : ℕ) → s ≡ edge 9 e → WideAt net r e
+    nine-says : (e : ℕ) → s ≡ atEdge 9 e → WideAt net r e
     nine-says e p = go (told-at t out lags s out′ lags′ net told 2 (ap stageOf p) .1)
       where
         go : End t out lags s out′ lags′ net 2 → WideAt net r e
@@ -41,11 +40,11 @@ module _ (t out : List ℕ) (lags : List ℤ) (s : Says) (out′ : List ℕ) (la
             subst (WideAt net r) k
             (record { edge = w .edge; wide = omega (arith, w .wide, same i (w .edge)); lowest = λ j g. omega (arith, w .lowest j g, same j (let z = w .edge in omega arith)) })
 
-    nine-said : (e : ℕ) → WideAt net r e → s ≡ edge 9 e
+    nine-said : (e : ℕ) → WideAt net r e → s ≡ atEdge 9 e
     nine-said e w = go (tell t out lags s out′ lags′ net told 2 (record { holds = (r, l, e, w); none-before = before-9 t out lags net h room r l }))
       where
-        go : End t out lags s out′ lags′ net 2 → s ≡ edge 9 e
-        go (q, m, i, x, u) = u .answer ∙ ap (edge 9) (lowest-one net ok q r m l i e x w)
+        go : End t out lags s out′ lags′ net 2 → s ≡ atEdge 9 e
+        go (q, m, i, x, u) = u .answer ∙ ap (atEdge 9) (lowest-one net ok q r m l i e x w)
 
     ten-says : s ≡ whole 10 → NarrowAt net r × ManyAt net r
     ten-says p = go (told-at t out lags s out′ lags′ net told 3 (ap stageOf p) .0 .holds)
@@ -85,7 +84,7 @@ unread-fact t out lags s out′ lags′ q k p net h o =
 pub nothing-touched : NothingTouched
 nothing-touched t out lags s out′ lags′ q k p o e = go o
   where
-    untouched : {x : Says} → Untouched t out lags s out′ lags′ x → (out′ ≡ out) × (lags′ ≡ lags)
+    untouched : {x : Said} → Untouched t out lags s out′ lags′ x → (out′ ≡ out) × (lags′ ≡ lags)
     untouched u = (u .buffer, u .table)
 
     go : Retimes t out lags s out′ lags′ → (out′ ≡ out) × (lags′ ≡ lags)

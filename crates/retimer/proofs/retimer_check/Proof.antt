@@ -1,6 +1,5 @@
 -- `retimer::retimer_check` meets its contract: a walk of its MIR, by hand. The borrow of the record is looked into, the record is copied and passed to `check_coded`, whose number is returned.
 -- All that the proof knows of `check_coded` is that it meets its contract.
--- Assumes nothing.
 use mathlib.Core.Path.{refl}
 use Prim.Native.Nat.{ℕ}
 use mathlib.Core.List.{[], _∷_, List}

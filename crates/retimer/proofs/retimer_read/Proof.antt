@@ -1,6 +1,5 @@
 -- `retimer::retimer_read` meets its contract: a walk of its MIR, by hand. The borrow of the record is opened, the record is copied and passed to `read_coded` with the text at its own lifetime, the record that comes back is stored, and the borrow is closed at it.
 -- All that the proof knows of `read_coded` is that it meets its contract.
--- Assumes nothing.
 use mathlib.Core.Path.{refl, ap}
 use Prim.Native.Nat.{ℕ}
 use mathlib.Core.List.{[], _∷_, List}

@@ -1,6 +1,5 @@
 -- `retimer::retimer_step` meets its contract: a walk of its MIR, by hand. The borrow of the record is looked into and that of the machine is opened, both are copied and passed to `step_coded` with the two slices at their own lifetimes, the machine that comes back is stored, and its borrow is closed at it.
 -- All that the proof knows of `step_coded` is that it meets its contract.
--- Assumes nothing.
 use mathlib.Core.Path.{_≡_, refl, ap}
 use Prim.Native.Nat.{ℕ}
 use mathlib.Core.List.{[], _∷_, List}

@@ -1,6 +1,5 @@
 -- `retimer::retimer_write` meets its contract: a walk of its MIR, by hand. The borrow of the record is looked into, the record is copied and passed to `write_coded` with the buffer at its own lifetime, and its number is returned.
 -- All that the proof knows of `write_coded` is that it meets its contract.
--- Assumes nothing.
 use mathlib.Core.Path.{_≡_, refl}
 use Prim.Native.Nat.{ℕ}
 use mathlib.Core.List.{[], _∷_, List}

@@ -1,5 +1,4 @@
 -- `rules::bits_fit` meets its contract, by the law of leading zeros; a count past 32 leaves no bit above it.
--- Assumes nothing.
 use Prim.Native.Nat.{_^_}
 use mathlib.Core.Path.{sym}
 use native.Mathlib.Nat.{lt-of-lt-of-le}

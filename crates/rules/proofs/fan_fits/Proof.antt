@@ -1,5 +1,4 @@
 -- `rules::fan_fits` meets its contract: the two ends of the kind's numbers.
--- Assumes nothing.
 use borrow.Author.Tests.{le-leb, lt-leb}
 use borrow.Author.Needs.{needs}
 use Rattle.rules.proofs.fan_fits.Statement.{statement}

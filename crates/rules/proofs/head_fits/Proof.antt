@@ -1,5 +1,4 @@
 -- `rules::head_fits` meets its contract: a test for each end of a range.
--- Assumes nothing.
 use native.Mathlib.Omega.{arith}
 use borrow.Author.Tests.{le-leb, lt-leb}
 use Rattle.rules.specs.Rules.{headFits}

@@ -1,5 +1,4 @@
 -- `rules::kind_at` meets its contract.
--- Assumes nothing.
 use mathlib.Core.Path.{sym}
 use borrow.Author.Needs.{needs}
 use lib.ListN.{List·getD-eq-default}

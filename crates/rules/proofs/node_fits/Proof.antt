@@ -1,5 +1,4 @@
 -- `rules::node_fits` meets its contract: the kind, then the two ends of its delays.
--- Assumes nothing.
 use borrow.Author.Tests.{le-leb, lt-leb}
 use Rattle.rules.specs.Rules.{nodeFits}
 use Rattle.rules.proofs.Tables.{last-test}

@@ -1,5 +1,4 @@
 -- `rules::rule_of` meets its contract: one test over the whole table; past it the rule is that of the last kind.
--- Assumes nothing.
 use mathlib.Core.Path.{refl}
 use native.Mathlib.Omega.{arith}
 use borrow.Author.Needs.{needs}

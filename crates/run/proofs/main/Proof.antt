@@ -1,5 +1,4 @@
 -- `run::main` ends: it counts the runs up to 65,536.
--- Assumes nothing.
 use Prim.Native.Nat.{_-_, _≤_}
 use borrow.Author.Needs.{needs}
 use Rattle.run.proofs.main.Statement.{statement}

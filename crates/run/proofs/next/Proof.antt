@@ -1,5 +1,4 @@
 -- `run::next` ends and stays within its buffers: two bytes count at most as many as a buffer has.
--- Assumes nothing.
 use mathlib.Core.Path.{sym}
 use native.Mathlib.Omega.{arith}
 use lib.Seq.{length-take-le}

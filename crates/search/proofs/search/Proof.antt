@@ -1,5 +1,4 @@
 -- `search::search` meets its contract: the rows hold what is due, and what is found for them is found for it.
--- Assumes nothing.
 use Prim.Native.Nat.{ℕ, _/_}
 use mathlib.Core.Path.{ap}
 use native.Mathlib.Omega.{arith}

@@ -1,11 +1,10 @@
 -- `show::put_refusal` meets its contract.
--- Assumes nothing.
 use mathlib.Core.Path.{_≡_, ap, _∙_}
 use native.Mathlib.Omega.{arith}
 use borrow.Author.Needs.{needs}
 use borrow.Author.Tests.{lt-leb, le-leb}
 use lib.ListN.{length}
-use Rattle.frame.specs.Decoded.{placed}
+use Rattle.frame.specs.Frame.{placed}
 use Rattle.netlist.specs.Answer.{says}
 use Rattle.netlist.specs.declared.Answer.the-variants.{Refused}
 use Rattle.show.specs.Shown.{refusalLine}

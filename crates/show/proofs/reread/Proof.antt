@@ -1,5 +1,4 @@
 -- `show::reread` meets its contract.
--- Assumes nothing.
 use borrow.Author.Needs.{needs}
 use Rattle.show.proofs.Printed.{rereads-text, rereads-refusal}
 use Rattle.show.proofs.reread.Statement.{statement}

@@ -1,5 +1,4 @@
 -- `show::rewrite` meets its contract.
--- Assumes nothing.
 use borrow.Author.Needs.{needs}
 use Rattle.show.proofs.Printed.{rewrites-stop, rewrites-done}
 use Rattle.show.proofs.rewrite.Statement.{statement}

@@ -1,5 +1,4 @@
 -- `show_run::digit` meets its contract: the code's test is that of `digitOf`.
--- Assumes nothing.
 use borrow.Author.Tests.{eq-eqb, ne-eqb}
 use Rattle.show_run.proofs.digit.Statement.{statement}
 use Rattle.show_run.proofs.digit.Tie as tie

@@ -1,5 +1,4 @@
 -- `show_run::put_digits` meets its contract. The loop's invariant: the digits of the bits below i stand at the front.
--- Assumes nothing.
 use Prim.Native.Nat.{_-_, _≤_}
 use mathlib.Core.Path.{_≡_, ap, ap₂, _∙_}
 use mathlib.Core.List.{map}
@@ -7,13 +6,13 @@ use native.Mathlib.Omega.{arith}
 use lib.ListN.{length, take, set, length-set}
 use lib.Seq.{sets, length-sets}
 use borrow.Author.Needs.{needs}
-use Rattle.show_run.specs.Printed.{digitOf}
+use Rattle.show_run.specs.Printed.{bitDigit}
 use Rattle.show_run.proofs.Digits.{digits-more, digits-end}
 use Rattle.show_run.proofs.put_digits.Statement.{statement}
 use Rattle.show_run.proofs.put_digits.Tie as tie
 
 abbrev Inv-loop : tie.InvT-loop
-Inv-loop bits n out₀ i₀ out i = (i ≤ n) × (out ≡ sets out₀ 0 (map digitOf (take i bits)))
+Inv-loop bits n out₀ i₀ out i = (i ≤ n) × (out ≡ sets out₀ 0 (map bitDigit (take i bits)))
 
 abbrev μ-loop : tie.MeasureT-loop
 μ-loop bits n out₀ i₀ out i = n - i
@@ -57,7 +56,7 @@ returns : tie.Need-returns Inv-loop μ-loop
 returns c =
     let a = c .before .before .before .before .args in
     let e : c .before .loop .i ≡ a .n = omega arith in
-    ap (λ l. set l (a .n) 10) (c .before .loop .inv .1 ∙ ap (λ i. sets (a .out .now) 0 (map digitOf (take i (a .bits .now)))) e) ∙ digits-end (a .bits .now) (a .out .now) (a .n) (omega arith)
+    ap (λ l. set l (a .n) 10) (c .before .loop .inv .1 ∙ ap (λ i. sets (a .out .now) 0 (map bitDigit (take i (a .bits .now)))) e) ∙ digits-end (a .bits .now) (a .out .now) (a .n) (omega arith)
 
 pub put-digits-spec : {M : Type 1} → statement M
 put-digits-spec =

@@ -1,5 +1,4 @@
 -- `show_run::put_run` meets its contract: a run that is not refused has room for its outputs.
--- Assumes nothing.
 use native.Mathlib.Omega.{arith}
 use borrow.Author.Needs.{needs}
 use Rattle.show_run.proofs.Printed.{run-room, prints-none, prints-digits, prints-refusal}

@@ -1,7 +1,6 @@
 -- Two netlists with the same nodes run alike where their traces agree at the outputs.
 --   before-like         the inputs and the outputs have the same places
 --   runs-alike
--- Assumes nothing.
 use Prim.Native.Nat.{ℕ, _+_, _*_, _/_, _<_, _≤_}
 use native.Mathlib.Omega.{arith}
 use mathlib.Core.Path.{_≡_, refl, sym, ap, ap₂, _∙_}
@@ -11,13 +10,13 @@ use lib.ListN.{length, getD}
 use Rattle.theory.specs.Clock.{gather, Trace}
 use Rattle.theory.specs.Gate.{gate}
 use Rattle.netlist.specs.declared.Netlist.{Netlist}
-use Rattle.netlist.specs.Answer.{Says, value, refused, andThen, holds}
+use Rattle.netlist.specs.Answer.{Said, value, refused, andThen, holds}
 use Rattle.netlist.specs.Net.{graphOf, regsOf}
 use Rattle.netlist.specs.Read.{Reads}
 use Rattle.netlist.proofs.Rows.{joined-same}
 use Rattle.netlist.proofs.theorems.One.{one-reading}
-use Rattle.simulate.specs.Clock.{before}
-use Rattle.simulate.specs.Step.{bits}
+use Rattle.simulate.specs.Clock.{earlier}
+use Rattle.simulate.specs.Step.{onlyBits}
 use Rattle.simulate.specs.Run.{clocksFrom, clocks, runSays}
 use Rattle.simulate.specs.Theorems.{byteAt, RunsAlike}
 use Rattle.simulate.proofs.Lists.{gather-like}
@@ -26,12 +25,12 @@ use Rattle.simulate.proofs.theorems.Trace.{trace-exists, run-is-trace}
 
 module _ (t t′ : List ℕ) (net net′ : Netlist) (r : Reads t (value 0) net) (r′ : Reads t′ (value 0) net′)
     (nodes : net .nodes ≡ net′ .nodes) (kinds : (v : ℕ) → v < net .nodes → getD (net .kind) v 0 ≡ getD (net′ .kind) v 0) where
-  before-like : (k v : ℕ) → v ≤ net .nodes → before net k v ≡ before net′ k v
-  unfolding before
+  before-like : (k v : ℕ) → v ≤ net .nodes → earlier net k v ≡ earlier net′ k v
+  unfolding earlier
   before-like k v h = ap length (gather-like (graphOf net .kind) (graphOf net′ .kind) (λ u. u) (λ u. u) k v (λ i l. kinds i (omega arith)) (λ i l q. refl))
 
-  all-like : (k : ℕ) → before net k (net .nodes) ≡ before net′ k (net′ .nodes)
-  all-like k = before-like k (net .nodes) (omega arith) ∙ ap (before net′ k) nodes
+  all-like : (k : ℕ) → earlier net k (net .nodes) ≡ earlier net′ k (net′ .nodes)
+  all-like k = before-like k (net .nodes) (omega arith) ∙ ap (earlier net′ k) nodes
 
   says-like : (vectors : List ℕ) (room : ℕ) → runSays net vectors room ≡ runSays net′ vectors room
   unfolding runSays
@@ -43,7 +42,7 @@ module _ (t t′ : List ℕ) (net net′ : Netlist) (r : Reads t (value 0) net) 
     byte-like v k h = ap₂ (λ i b. getD vectors (k * i + b) 0) (all-like 0) (before-like 0 v (omega arith))
 
     -- Both runs put out their traces' values.
-    clocks-like : (n : ℕ) → bits vectors ≡ true → clocksFrom net n (net .start) vectors ≡ clocksFrom net′ n (net′ .start) vectors
+    clocks-like : (n : ℕ) → onlyBits vectors ≡ true → clocksFrom net n (net .start) vectors ≡ clocksFrom net′ n (net′ .start) vectors
     clocks-like n b =
         let X = trace-exists t net (byteAt net vectors) r in
         let Y = trace-exists t′ net′ (byteAt net vectors) r′ in
@@ -56,7 +55,7 @@ module _ (t t′ : List ℕ) (net net′ : Netlist) (r : Reads t (value 0) net) 
         ∙ ap (gather (graphOf net′ .kind) (λ v. y v k) 1) nodes in
         run-is-trace t net n vectors x r b (X .1) ∙ joined-same _ _ n (λ k h. out k) ∙ sym (run-is-trace t′ net′ n vectors y r′ b Y′)
 
-    buffer-like : (s : Says) (old : List ℕ) → s ≡ runSays net vectors (length old)
+    buffer-like : (s : Said) (old : List ℕ) → s ≡ runSays net vectors (length old)
         → holds s (clocksFrom net (clocks net vectors) (net .start) vectors) old ≡ holds s (clocksFrom net′ (clocks net′ vectors) (net′ .start) vectors) old
     buffer-like (value o) old q =
         let g = run-goes net vectors (length old) o q in

@@ -1,6 +1,5 @@
 -- A run and a step have one outcome at most, as a text has one reading.
 --   one-run, one-step
--- Assumes nothing.
 use mathlib.Core.Path.{_≡_, sym, ap₂, _∙_}
 use lib.ListN.{length}
 use Rattle.netlist.specs.Answer.{andThen, holds}

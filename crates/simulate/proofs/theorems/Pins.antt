@@ -1,6 +1,5 @@
 -- A netlist that reads has an input and an output.
 --   has-pins
--- Assumes nothing.
 use Prim.Native.Nat.{ℕ, _<_}
 use native.Mathlib.Omega.{arith}
 use mathlib.Core.Path.{_≡_, refl}

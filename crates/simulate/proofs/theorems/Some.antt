@@ -1,6 +1,5 @@
 -- Every run and every step has an outcome, as every text has one.
 --   some-run, some-step
--- Assumes nothing.
 use mathlib.Core.Path.{refl}
 use lib.ListN.{length}
 use Rattle.netlist.specs.Answer.{andThen, holds}

@@ -2,7 +2,6 @@
 --   run-is-stepping     a clock of a run puts out and leaves what a step does
 --   step-on             a step that is not refused
 --   steps-go-on
--- Assumes nothing.
 use Prim.Native.Nat.{ℕ}
 use mathlib.Core.Path.{_≡_, refl, sym, ap, ap₂, _∙_, subst}
 use mathlib.Core.List.{List, _++_}

@@ -5,7 +5,6 @@
 --   run-steps           the run steps as the theory's machine does
 --   clocks-joined       what a run puts out, clock by clock
 --   run-is-trace
--- Assumes nothing.
 use Prim.Native.Nat.{ℕ, zero, suc, _+_, _*_, _<_}
 use native.Mathlib.Omega.{arith}
 use mathlib.Core.Path.{_≡_, refl, sym, ap, ap₂, _∙_}
@@ -16,7 +15,7 @@ use lib.Seq.{getD-take, getD-drop, drop-drop}
 use Rattle.theory.specs.Graph.{Wired}
 use Rattle.theory.specs.Walk.{Loop}
 use Rattle.theory.specs.Clock.{gather, Trace, value as valueOf}
-use Rattle.theory.specs.Step.{Steps}
+use Rattle.theory.specs.inner.Stepping.{Stepping}
 use Rattle.theory.specs.Gate.{gate}
 use Rattle.theory.proofs.clocks.Seen.{gather-same}
 use Rattle.theory.proofs.clocks.Trace.{same-regs-refl, unique}
@@ -29,8 +28,8 @@ use Rattle.netlist.specs.Write.{joined}
 use Rattle.netlist.proofs.Rows.{joined-same}
 use Rattle.netlist.proofs.theorems.Lines.{lines-fact}
 use Rattle.netlist.proofs.theorems.Sound.{reads-value, read-is-sound}
-use Rattle.simulate.specs.Clock.{inputs, byteOf, values, outputValues, wordsAfter}
-use Rattle.simulate.specs.Step.{bits}
+use Rattle.simulate.specs.Clock.{inputs, inputByte, values, outputValues, wordsAfter}
+use Rattle.simulate.specs.Step.{onlyBits}
 use Rattle.simulate.specs.Run.{clocksFrom}
 use Rattle.simulate.specs.Theorems.{TraceExists, TraceUnique, byteAt, RunIsTrace}
 use Rattle.simulate.proofs.Words.{moved-low, moved-top}
@@ -72,8 +71,8 @@ clocks-joined net vectors (suc n) k =
     ∙ sym (joined-first (λ j. out (k + j)) n)
 
 module _ (net : Netlist) (wired : Wired (graphOf net)) (no-loop : ¬ Loop (graphOf net) (regsOf net .count)) (starts : Fits net (net .start))
-    (vectors : List ℕ) (b : bits vectors ≡ true) where
-  vector-bits : (k : ℕ) → bits (vectorAt net vectors k) ≡ true
+    (vectors : List ℕ) (b : onlyBits vectors ≡ true) where
+  vector-bits : (k : ℕ) → onlyBits (vectorAt net vectors k) ≡ true
   vector-bits k = bits-take (inputs net) (drop (k * inputs net) vectors) (bits-drop (k * inputs net) vectors b)
 
   fits-at : (k : ℕ) → Fits net (wordsAt net vectors k)
@@ -84,10 +83,10 @@ module _ (net : Netlist) (wired : Wired (graphOf net)) (no-loop : ¬ Loop (graph
   valueAt : ℕ → ℕ → ℕ
   valueAt v k = values net (wordsAt net vectors k) (vectorAt net vectors k) v
 
-  byte-at : (v k : ℕ) → v < net .nodes → graphOf net .kind v ≡ 0 → byteOf net (vectorAt net vectors k) v ≡ byteAt net vectors v k
+  byte-at : (v k : ℕ) → v < net .nodes → graphOf net .kind v ≡ 0 → inputByte net (vectorAt net vectors k) v ≡ byteAt net vectors v k
   byte-at v k h q = getD-take (inputs net) (drop (k * inputs net) vectors) _ 0 (before-less net 0 v (net .nodes) q h) ∙ getD-drop (k * inputs net) vectors _ 0
 
-  run-steps : Steps gate (graphOf net) (regsOf net) (byteAt net vectors) valueAt (λ k. bitsOf (wordsAt net vectors k))
+  run-steps : Stepping gate (graphOf net) (regsOf net) (byteAt net vectors) valueAt (λ k. bitsOf (wordsAt net vectors k))
   unfolding wordsAt valueAt
   run-steps = record {
     begins = λ e k he hk. refl;

@@ -6,7 +6,6 @@
 --   Alike               what two steps of one netlist have in common, where the words that are looked at agree
 --   alike-read          it holds where the step checks that netlist
 --   words-unread
--- Assumes nothing.
 use Prim.Native.Nat.{ℕ, zero, suc, _/_, _%_, _<_, _≤_}
 use native.Mathlib.Omega.{arith}
 use native.Mathlib.Decide.{decLt}
@@ -19,7 +18,7 @@ use Rattle.frame.proofs.Laws.{number-append, length-bytes}
 use Rattle.theory.specs.Graph.{Wired}
 use Rattle.theory.specs.Walk.{Loop}
 use Rattle.netlist.specs.declared.Netlist.{Netlist}
-use Rattle.netlist.specs.Answer.{Says, value, refused, andThen, holds}
+use Rattle.netlist.specs.Answer.{Said, value, refused, andThen, holds}
 use Rattle.netlist.specs.Net.{graphOf, regsOf}
 use Rattle.netlist.specs.Read.{Reads}
 use Rattle.netlist.specs.Write.{headLine, nodeLine, edgeLine, joined, textOf}
@@ -77,12 +76,12 @@ fit-same net words words′ zero same = refl
 fit-same net words words′ (suc n) same = rw (fit-same net words words′ n (λ e h. same e (omega arith)), same n (omega arith))
 
 -- The words from the n-th on stay, as do those of a step that is refused.
-machine-past : (s : Says) (net : Netlist) (m : Machine) (vector : List ℕ) (n : ℕ) → net .edges ≤ n → drop n (machineAfter s net m vector .words) ≡ drop n (m .words)
+machine-past : (s : Said) (net : Netlist) (m : Machine) (vector : List ℕ) (n : ℕ) → net .edges ≤ n → drop n (machineAfter s net m vector .words) ≡ drop n (m .words)
 machine-past (value o) net m vector n h = after-past net (m .words) vector n h
 machine-past (refused q k p) net m vector n h = refl
 
 -- What two steps of the same netlist have in common, on machines m and k whose first n words agree.
-record Alike (net : Netlist) (n : ℕ) (m k : Machine) (vector old : List ℕ) (checked s : Says) : Type 0 where
+record Alike (net : Netlist) (n : ℕ) (m k : Machine) (vector old : List ℕ) (checked s : Said) : Type 0 where
   answer : andThen checked (stepSays net (m .words) vector (length old)) ≡ andThen checked (stepSays net (k .words) vector (length old))
   buffer : holds s (outputValues net (m .words) vector) old ≡ holds s (outputValues net (k .words) vector) old
   words : (e : ℕ) → e < n → getD (machineAfter s net m vector .words) e 0 ≡ getD (machineAfter s net k vector .words) e 0
@@ -93,7 +92,7 @@ module _ (n : ℕ) (m k : Machine) (agree : (e : ℕ) → e < n → getD (m .wor
     below : (e : ℕ) → e < net .edges → getD (m .words) e 0 ≡ getD (k .words) e 0
     below e h = agree e (omega arith)
 
-    alike-words : (s : Says) (e : ℕ) → e < n → getD (machineAfter s net m vector .words) e 0 ≡ getD (machineAfter s net k vector .words) e 0
+    alike-words : (s : Said) (e : ℕ) → e < n → getD (machineAfter s net m vector .words) e 0 ≡ getD (machineAfter s net k vector .words) e 0
     alike-words (value o) e h = go (decLt e (net .edges))
       where
         go : Dec (e < net .edges) → getD (wordsAfter net (m .words) vector) e 0 ≡ getD (wordsAfter net (k .words) vector) e 0
@@ -101,7 +100,7 @@ module _ (n : ℕ) (m k : Machine) (agree : (e : ℕ) → e < n → getD (m .wor
         go (no l) = after-out net (m .words) vector e (omega arith) ∙ agree e h ∙ sym (after-out net (k .words) vector e (omega arith))
     alike-words (refused q j p) e h = agree e h
 
-    alike : (i : ℕ) (s : Says) → Alike net n m k vector old (value i) s
+    alike : (i : ℕ) (s : Said) → Alike net n m k vector old (value i) s
     unfolding stepSays
     alike i s = record {
       answer = rw (fit-same net (m .words) (k .words) (net .edges) below);
@@ -111,7 +110,7 @@ module _ (n : ℕ) (m k : Machine) (agree : (e : ℕ) → e < n → getD (m .wor
     }
 
   -- A reading that refuses nothing has read a sound netlist, of no more than n edges; after any other nothing is stepped.
-  alike-read : (net back : Netlist) (checked s : Says) → net .edges ≡ n → Reads (textOf net) checked back
+  alike-read : (net back : Netlist) (checked s : Said) → net .edges ≡ n → Reads (textOf net) checked back
       → s ≡ andThen checked (stepSays back (m .words) vector (length old)) → Alike back n m k vector old checked s
   alike-read net back (value i) s e r q =
       let z : i ≡ 0 = judged-zero (reads-value r .1) in

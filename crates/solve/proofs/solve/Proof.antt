@@ -1,5 +1,4 @@
 -- `solve::solve` meets its contract: what is searched is the program under the new numbers, and it has the same smallest choice.
--- Assumes nothing.
 use Prim.Native.Nat.{ℕ, _/_}
 use native.Mathlib.Omega.{arith}
 use lib.ListN.{length-replicate, getD-replicate}

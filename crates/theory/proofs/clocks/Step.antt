@@ -1,5 +1,4 @@
 -- Stepping runs through the trace: each run of the machine is a trace, and the machine as a function runs to the trace's values.
--- Assumes nothing.
 use mathlib.Core.Path.{_≡_, refl, sym, _∙_, ap}
 use mathlib.Core.Bool.{Bool, true, false}
 use mathlib.Core.List.{List}
@@ -13,12 +12,13 @@ use borrow.Author.Tests.{eqb-true, eqb-false, lt-ltb, le-ltb}
 use Rattle.theory.specs.Graph.{Graph, Wired}
 use Rattle.theory.specs.Walk.{Loop}
 use Rattle.theory.specs.Clock.{Regs, seen, gather, sees, Trace, value}
-use Rattle.theory.specs.Step.{showsIf, shows, Steps, holding, oneClock, next, words, ran}
+use Rattle.theory.specs.inner.Stepping.{showsIf, edgeShows, Stepping, next, words, stepValue}
+use Rattle.theory.specs.Step.{holding, oneClock}
 use Rattle.theory.proofs.clocks.Seen.{seen-early, seen-late, gather-same}
 use Rattle.theory.proofs.clocks.Trace.{clock-induction, same-regs-refl, unique}
 use Rattle.theory.proofs.clocks.Value.{value-trace}
 
-module _ (gate : ℕ → List ℕ → ℕ) (G : Graph) (R : Regs) {ins x : ℕ → ℕ → ℕ} {word : ℕ → ℕ → ℕ → ℕ} (steps : Steps gate G R ins x word) where
+module _ (gate : ℕ → List ℕ → ℕ) (G : Graph) (R : Regs) {ins x : ℕ → ℕ → ℕ} {word : ℕ → ℕ → ℕ → ℕ} (steps : Stepping gate G R ins x word) where
   -- Bit k of a word is what will be seen k clocks later.
   pub word-is : (t e k : ℕ) → e < G .edges → k < R .count e → word t e k ≡ seen G R x e (t + k)
   word-is zero e k he hk = steps .begins e k he hk ∙ sym (seen-early G R x e (0 + k) (omega arith) ∙ ap (R .start e) (omega arith))
@@ -28,8 +28,8 @@ module _ (gate : ℕ → List ℕ → ℕ) (G : Graph) (R : Regs) {ins x : ℕ �
       (λ (h : suc k < R .count e). steps .shifts t e k he h ∙ word-is t e (suc k) he h ∙ ap (seen G R x e) (omega arith))
       (eq-or-lt-of-le hk)
 
-  shows-seen : (t e : ℕ) → e < G .edges → shows G R (word t) (λ u. x u t) e ≡ seen G R x e t
-  unfolding shows
+  shows-seen : (t e : ℕ) → e < G .edges → edgeShows G R (word t) (λ u. x u t) e ≡ seen G R x e t
+  unfolding edgeShows
   shows-seen t e he = go (eqb (R .count e) 0) refl
     where
       go : (b : Bool) → eqb (R .count e) 0 ≡ b → showsIf b G (word t) (λ u. x u t) e ≡ seen G R x e t
@@ -42,12 +42,12 @@ module _ (gate : ℕ → List ℕ → ℕ) (G : Graph) (R : Regs) {ins x : ℕ �
     at-input = steps .at-input;
     at-gate = λ v t hv n.
         steps .at-gate v t hv n
-        ∙ ap (gate (G .kind v)) (gather-same (G .dst) (shows G R (word t) (λ u. x u t)) (λ e. seen G R x e t) v (G .edges) (λ e he d. shows-seen t e he));
+        ∙ ap (gate (G .kind v)) (gather-same (G .dst) (edgeShows G R (word t) (λ u. x u t)) (λ e. seen G R x e t) v (G .edges) (λ e he d. shows-seen t e he));
   }
 
 -- At clock 0 an edge shows its word's bit 0, or its source.
-pub shows-first : (G : Graph) (R : Regs) (word x : ℕ → ℕ → ℕ) (e : ℕ) → seen G (holding R word) x e 0 ≡ shows G R word (λ u. x u 0) e
-unfolding shows
+pub shows-first : (G : Graph) (R : Regs) (word x : ℕ → ℕ → ℕ) (e : ℕ) → seen G (holding R word) x e 0 ≡ edgeShows G R word (λ u. x u 0) e
+unfolding edgeShows
 shows-first G R word x e = go (eqb (R .count e) 0) refl
   where
     go : (b : Bool) → eqb (R .count e) 0 ≡ b → seen G (holding R word) x e 0 ≡ showsIf b G word (λ u. x u 0) e
@@ -58,7 +58,7 @@ module _ (gate : ℕ → List ℕ → ℕ) (G : Graph) (w : Wired G) (R : Regs) 
   at-clock : (t : ℕ) → Trace gate G (holding R (words gate G R ins t)) (λ u k. ins u t) (value gate G (holding R (words gate G R ins t)) (λ u k. ins u t))
   at-clock t = value-trace gate G w (holding R (words gate G R ins t)) none (λ u k. ins u t)
 
-  pub run-steps : Steps gate G R ins (ran gate G R ins) (words gate G R ins)
+  pub run-steps : Stepping gate G R ins (stepValue gate G R ins) (words gate G R ins)
   unfolding words next oneClock sees
   run-steps = record {
     begins = λ e k he hk. refl;
@@ -69,15 +69,15 @@ module _ (gate : ℕ → List ℕ → ℕ) (G : Graph) (w : Wired G) (R : Regs) 
   }
 
   -- Running is stepping from the start values.
-  pub run-value : (v t : ℕ) → v < G .nodes → ran gate G R ins v t ≡ value gate G R ins v t
+  pub run-value : (v t : ℕ) → v < G .nodes → stepValue gate G R ins v t ≡ value gate G R ins v t
   run-value = unique gate G w R R (same-regs-refl G R) none (steps-trace gate G R run-steps) (value-trace gate G w R none ins) (λ v t hv p. refl)
 
 -- Values that fit the inputs and the gates in one clock are that clock's values: so code may work them out in any order.
 module _ (gate : ℕ → List ℕ → ℕ) (G : Graph) (w : Wired G) (R : Regs) (none : ¬ Loop G (R .count)) (word : ℕ → ℕ → ℕ) (now x : ℕ → ℕ)
     (at-input : (v : ℕ) → v < G .nodes → G .kind v ≡ 0 → x v ≡ now v)
-    (at-gate : (v : ℕ) → v < G .nodes → ¬ (G .kind v ≡ 0) → x v ≡ gate (G .kind v) (gather (G .dst) (shows G R word x) v (G .edges))) where
-  shows-same : (y : ℕ → ℕ) (e : ℕ) → (R .count e ≡ 0 → x (G .src e) ≡ y (G .src e)) → shows G R word x e ≡ shows G R word y e
-  unfolding shows showsIf
+    (at-gate : (v : ℕ) → v < G .nodes → ¬ (G .kind v ≡ 0) → x v ≡ gate (G .kind v) (gather (G .dst) (edgeShows G R word x) v (G .edges))) where
+  shows-same : (y : ℕ → ℕ) (e : ℕ) → (R .count e ≡ 0 → x (G .src e) ≡ y (G .src e)) → edgeShows G R word x e ≡ edgeShows G R word y e
+  unfolding edgeShows showsIf
   shows-same y e same = go (eqb (R .count e) 0) refl
     where
       go : (b : Bool) → eqb (R .count e) 0 ≡ b → showsIf b G word x e ≡ showsIf b G word y e

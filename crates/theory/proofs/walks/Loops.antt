@@ -1,11 +1,10 @@
 -- Loops without a register: how to see that there is none, and that a long walk without a register holds one.
--- Assumes nothing.
 use Prim.Native.Nat.{ℕ, zero, suc, _+_, _≤_, _<_}
 use native.Mathlib.Omega.{arith}
 use native.Mathlib.Decide.{decLt}
 use mathlib.Core.Path.{_≡_, refl, sym, subst}
 use Rattle.theory.specs.Graph.{Graph, Wired}
-use Rattle.theory.specs.Walk.{Walk, one, more, registers, steps, Loop}
+use Rattle.theory.specs.Walk.{Walk, one, more, registers, walkSteps, Loop}
 use Rattle.theory.proofs.numbers.Pigeon.{pigeonhole, cons}
 use Rattle.theory.proofs.walks.Walks.{join, join-registers, join-steps}
 
@@ -13,15 +12,15 @@ use Rattle.theory.proofs.walks.Walks.{join, join-registers, join-steps}
 pub record Bare (G : Graph) (count : ℕ → ℕ) (u v n : ℕ) : Type 0 where
   pub walk : Walk G u v
   pub bare : registers count walk ≡ 0
-  pub long : steps walk ≡ n
+  pub long : walkSteps walk ≡ n
 
 pub bare-one : (G : Graph) (count : ℕ → ℕ) (v : ℕ) → v < G .nodes → Bare G count v v 0
-unfolding registers steps
+unfolding registers walkSteps
 bare-one G count v h = record { walk = one h; bare = omega arith; long = omega arith }
 
 -- One more edge at its start.
 pub bare-more : {G : Graph} {count : ℕ → ℕ} → Wired G → (e v z n : ℕ) → e < G .edges → G .dst e ≡ v → count e ≡ 0 → Bare G count v z n → Bare G count (G .src e) z (suc n)
-unfolding registers steps
+unfolding registers walkSteps
 bare-more {G} {count} i e v z n h d q b =
     let c : Bare G count (G .dst e) z n = subst (λ x. Bare G count x z n) (sym d) b in
     let p : Walk G (G .src e) (G .dst e) = more e h (one (i .src-in e h)) in
@@ -39,8 +38,8 @@ closed {G} {count} {u} {v} {n} w q m =
 
 -- Where the nodes can be numbered so that each edge without registers goes up, there is none.
 module _ {G : Graph} {count : ℕ → ℕ} (rank : ℕ → ℕ) (up : (e : ℕ) → e < G .edges → count e ≡ 0 → rank (G .src e) < rank (G .dst e)) where
-  rank-sum : {u v : ℕ} (p : Walk G u v) → registers count p ≡ 0 → rank u + steps p ≤ rank v
-  unfolding registers steps
+  rank-sum : {u v : ℕ} (p : Walk G u v) → registers count p ≡ 0 → rank u + walkSteps p ≤ rank v
+  unfolding registers walkSteps
   rank-sum (one h) q = omega arith
   rank-sum (more e h p) q = omega (arith, rank-sum p (omega arith), up e h (omega arith))
 
@@ -58,7 +57,7 @@ record Visits (G : Graph) (count : ℕ → ℕ) (v n : ℕ) : Type 0 where
 -- A walk without a register that has as many edges as there are nodes, or more, visits some node twice: there is a loop without a register.
 module _ {G : Graph} (i : Wired G) (count : ℕ → ℕ) where
   visit-more : {n : ℕ} (e : ℕ) → e < G .edges → count e ≡ 0 → Visits G count (G .src e) n → Visits G count (G .dst e) (suc n)
-  unfolding registers steps
+  unfolding registers walkSteps
   visit-more {n} e h q w = record { at = at; node = node; rest = rest; between = between }
     where
       at : ℕ → ℕ
@@ -76,11 +75,11 @@ module _ {G : Graph} (i : Wired G) (count : ℕ → ℕ) where
       between j zero m l = absurd (let z : ⊥ = omega arith in z)
       between zero (suc k) m l =
           let r = w .rest k (omega arith) in
-          (steps (r .0), record { walk = more e h (r .0); bare = omega (arith, r .1); long = refl })
+          (walkSteps (r .0), record { walk = more e h (r .0); bare = omega (arith, r .1); long = refl })
       between (suc j) (suc k) m l = w .between j k (omega arith) (omega arith)
 
-  visits : {u v : ℕ} (p : Walk G u v) → registers count p ≡ 0 → Visits G count v (steps p)
-  unfolding registers steps
+  visits : {u v : ℕ} (p : Walk G u v) → registers count p ≡ 0 → Visits G count v (walkSteps p)
+  unfolding registers walkSteps
   visits {u} (one h) c = record {
     at = λ j. u;
     node = λ j l. h;
@@ -89,7 +88,7 @@ module _ {G : Graph} (i : Wired G) (count : ℕ → ℕ) where
   }
   visits (more e h p) c = visit-more e h (omega arith) (visits p (omega arith))
 
-  pub long-loop : {u v : ℕ} (p : Walk G u v) → registers count p ≡ 0 → G .nodes ≤ steps p → Loop G count
+  pub long-loop : {u v : ℕ} (p : Walk G u v) → registers count p ≡ 0 → G .nodes ≤ walkSteps p → Loop G count
   long-loop p c l = go (visits p c) l
     where
       go : {v n : ℕ} → Visits G count v n → G .nodes ≤ n → Loop G count
@@ -98,9 +97,9 @@ module _ {G : Graph} (i : Wired G) (count : ℕ → ℕ) where
           closed (w .between (t .i) (t .j) (t .before) (omega (arith, t .within)) .1) (sym (t .same)) (omega arith)
 
   -- So where there is no such loop, every such walk has fewer edges than there are nodes.
-  pub bare-short : ¬ Loop G count → {u v : ℕ} (p : Walk G u v) → registers count p ≡ 0 → steps p < G .nodes
-  bare-short none p c = go (decLt (steps p) (G .nodes))
+  pub bare-short : ¬ Loop G count → {u v : ℕ} (p : Walk G u v) → registers count p ≡ 0 → walkSteps p < G .nodes
+  bare-short none p c = go (decLt (walkSteps p) (G .nodes))
     where
-      go : Dec (steps p < G .nodes) → steps p < G .nodes
+      go : Dec (walkSteps p < G .nodes) → walkSteps p < G .nodes
       go (yes h) = h
       go (no h) = absurd (none (long-loop p c (omega arith)))

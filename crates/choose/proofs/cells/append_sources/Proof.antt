@@ -1,5 +1,4 @@
 -- `choose::cells::append_sources` meets its contract: the operands of the places from lo up to k are put.
--- Assumes nothing.
 use Prim.Native.Nat.{ℕ, _+_, _-_, _≤_, _<_}
 use mathlib.Core.Path.{_≡_, refl, ap, subst, _∙_}
 use native.Mathlib.Omega.{arith}
@@ -7,7 +6,7 @@ use denote.Ref.{now}
 use lib.ListN.{length}
 use borrow.Author.Needs.{needs}
 use Rattle.graph.specs.Columns.{at}
-use Rattle.choose.specs.Sources.{sourceAt, Shows, Appended}
+use Rattle.choose.specs.inner.Sources.{sourceAt, SourceRows, Appended}
 use Rattle.choose.proofs.Sources.{appended-none, appended-more}
 use Rattle.choose.proofs.cells.append_sources.Statement.{statement}
 use Rattle.choose.proofs.cells.append_sources.Tie as tie
@@ -24,7 +23,7 @@ loop-holds c =
     (omega arith, omega arith, refl, appended-none (λ k. sourceAt (now (a .from)) (now (a .counts)) (now (a .base)) (now (a .id)) (a .t) (at (now (a .ins)) k)) _ (a .lo) (a .start))
 
 shows : (c : tie.In-loop Inv-loop μ-loop)
-    → Shows (now (c .before .before .before .before .before .before .before .before .args .from)) (now (c .before .before .before .before .before .before .before .before .args .counts)) (now (c .before .before .before .before .before .before .before .before .args .base)) (now (c .before .before .before .before .before .before .before .before .args .id)) (c .before .before .before .before .before .before .before .before .args .t) (at (now (c .before .before .before .before .before .before .before .before .args .ins)) (c .before .loop .k))
+    → SourceRows (now (c .before .before .before .before .before .before .before .before .args .from)) (now (c .before .before .before .before .before .before .before .before .args .counts)) (now (c .before .before .before .before .before .before .before .before .args .base)) (now (c .before .before .before .before .before .before .before .before .args .id)) (c .before .before .before .before .before .before .before .before .args .t) (at (now (c .before .before .before .before .before .before .before .before .args .ins)) (c .before .loop .k))
 shows c = c .before .before .before .before .before .before .before .before .pre .1 (c .before .loop .k) (c .loop-test .taken) (c .before .loop .inv .1)
 
 room : (c : tie.In-loop Inv-loop μ-loop) → c .before .loop .n < length (c .before .loop .operand)

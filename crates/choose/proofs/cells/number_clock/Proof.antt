@@ -1,5 +1,4 @@
 -- `choose::cells::number_clock` meets its contract: the cells before place p are numbered.
--- Assumes nothing.
 use Prim.Native.Nat.{ℕ, _+_, _*_, _-_, _≤_, _<_}
 use mathlib.Core.Path.{_≡_, sym, subst, _∙_}
 use mathlib.Core.Logic.{⊎-elim}
@@ -9,13 +8,13 @@ use denote.Ref.{now}
 use lib.ListN.{length, set}
 use borrow.Author.Needs.{needs}
 use Rattle.graph.specs.Columns.{at}
-use Rattle.choose.specs.Numbers.{lagAt, Numbered}
+use Rattle.choose.specs.inner.Numbers.{lagAt, CellsNumbered}
 use Rattle.choose.proofs.Numbers.{numbered-miss, numbered-hit}
 use Rattle.choose.proofs.cells.number_clock.Statement.{statement}
 use Rattle.choose.proofs.cells.number_clock.Tie as tie
 
 abbrev Inv-loop : tie.InvT-loop
-Inv-loop order lab nodes t start id₀ code₀ clock n₀ p₀ id code n p = (p ≤ nodes) × Numbered (lagAt lab) order nodes t p n id code
+Inv-loop order lab nodes t start id₀ code₀ clock n₀ p₀ id code n p = (p ≤ nodes) × CellsNumbered (lagAt lab) order nodes t p n id code
 
 abbrev μ-loop : tie.MeasureT-loop
 μ-loop order lab nodes t start id₀ code₀ clock n₀ p₀ id code n p = nodes - p
@@ -86,7 +85,7 @@ add-p c = search needs
 loop-less : tie.Need-loop-less Inv-loop μ-loop
 loop-less c = search needs
 
-same : {lag : ℕ → ℕ} {order : List ℕ} {nodes t p n m : ℕ} {id id′ code code′ : List ℕ} → id′ ≡ id → code′ ≡ code → m ≡ n → Numbered lag order nodes t p n id code → Numbered lag order nodes t p m id′ code′
+same : {lag : ℕ → ℕ} {order : List ℕ} {nodes t p n m : ℕ} {id id′ code code′ : List ℕ} → id′ ≡ id → code′ ≡ code → m ≡ n → CellsNumbered lag order nodes t p n id code → CellsNumbered lag order nodes t p m id′ code′
 same e f g s = rw (e, f, g) s
 
 loop-again : tie.Need-loop-again Inv-loop μ-loop
@@ -94,9 +93,9 @@ loop-again c =
     let a = c .before .before .before .before .before .before .before .before .before .before .args in
     let l = c .before .before .before .before .before .loop in
     let b = bounds (c .before .before .before .before) in
-    let m : ¬ (a .t < c .before .up-of .result) → Numbered (lagAt (now (a .lab))) (now (a .order)) (a .nodes) (a .t) (l .p + 1) (l .n) (l .id) (l .code) =
+    let m : ¬ (a .t < c .before .up-of .result) → CellsNumbered (lagAt (now (a .lab))) (now (a .order)) (a .nodes) (a .t) (l .p + 1) (l .n) (l .id) (l .code) =
     λ h. numbered-miss (lagAt (now (a .lab))) (now (a .order)) (a .nodes) (a .t) (l .p) (l .n) (l .id) (l .code) (l .inv .1) (λ k. h (subst (λ x. a .t < x) (sym (c .before .up-of .ensures)) k)) in
-    let k : a .t < c .before .up-of .result → Numbered (lagAt (now (a .lab))) (now (a .order)) (a .nodes) (a .t) (l .p + 1) (l .n + 1) (set (l .id) (at (now (a .order)) (l .p) * 32 + a .t) (l .n)) (set (l .code) (l .n) (at (now (a .order)) (l .p) * 32 + a .t)) =
+    let k : a .t < c .before .up-of .result → CellsNumbered (lagAt (now (a .lab))) (now (a .order)) (a .nodes) (a .t) (l .p + 1) (l .n + 1) (set (l .id) (at (now (a .order)) (l .p) * 32 + a .t) (l .n)) (set (l .code) (l .n) (at (now (a .order)) (l .p) * 32 + a .t)) =
     λ h. numbered-hit (lagAt (now (a .lab))) (now (a .order)) (a .nodes) (a .t) (l .p) (l .n) (l .id) (l .code) (l .inv .1) (c .before .before .before .before .before .before .before .before .before .before .pre .0 .0) (c .before .before .before .before .before .before .before .before .before .before .pre .1 .0) (c .before .before .before .before .loop-test .taken) (subst (λ x. a .t < x) (c .before .up-of .ensures) h) (omega (arith, b)) in (
       omega arith,
       ⊎-elim (λ w. same (w .1) (w .2) (w .3) (k (w .0 .taken))) (λ w. same (w .1) (w .2) (w .3) (m (λ h. let z : ⊥ = omega (arith, w .0 .left) in z))) (c .if1 .came),
@@ -109,7 +108,7 @@ same-length-2 : tie.Need-same-length-2 Inv-loop μ-loop
 same-length-2 c = c .before .loop .inv .1 .code-rows ∙ sym (c .before .before .before .before .before .before .pre .1 .1 .code-rows)
 
 returns : tie.Need-returns Inv-loop μ-loop
-returns c = subst (λ p. Numbered (lagAt (now (c .before .before .before .before .before .before .args .lab))) (now (c .before .before .before .before .before .before .args .order)) (c .before .before .before .before .before .before .args .nodes) (c .before .before .before .before .before .before .args .t) p (c .before .loop .n) (c .before .loop .id) (c .before .loop .code)) (let z : c .before .loop .p ≡ c .before .before .before .before .before .before .args .nodes = omega arith in z) (c .before .loop .inv .1)
+returns c = subst (λ p. CellsNumbered (lagAt (now (c .before .before .before .before .before .before .args .lab))) (now (c .before .before .before .before .before .before .args .order)) (c .before .before .before .before .before .before .args .nodes) (c .before .before .before .before .before .before .args .t) p (c .before .loop .n) (c .before .loop .id) (c .before .loop .code)) (let z : c .before .loop .p ≡ c .before .before .before .before .before .before .args .nodes = omega arith in z) (c .before .loop .inv .1)
 
 pub number-clock-spec : {M : Type 1} → statement M
 number-clock-spec =

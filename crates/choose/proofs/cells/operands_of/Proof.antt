@@ -1,5 +1,4 @@
 -- `choose::cells::operands_of` meets its contract: the operands of the cells below i are put.
--- Assumes nothing.
 use Prim.Native.Nat.{ℕ, _+_, _-_, _/_, _≤_}
 use mathlib.Core.Path.{_≡_, refl, subst, _∙_}
 use native.Mathlib.Omega.{arith}
@@ -9,7 +8,7 @@ use borrow.Author.Needs.{needs}
 use Rattle.theory.specs.Move.{sum}
 use Rattle.graph.specs.Columns.{at}
 use lib.Seq.{getD-set-same}
-use Rattle.choose.specs.Sources.{widthAt, Ready, Operands}
+use Rattle.choose.specs.inner.Sources.{widthAt, OperandRows, Operands}
 use Rattle.moves.proofs.Labels.{sum-more, sum-none, sum-grows}
 use Rattle.choose.proofs.Sources.{operands-none, operands-more}
 use Rattle.choose.proofs.cells.operands_of.Statement.{statement}
@@ -38,7 +37,7 @@ loop-holds c =
     )
 
 ready : (c : tie.In-loop Inv-loop μ-loop)
-    → Ready (now (c .before .before .before .before .before .before .before .before .before .before .before .args .from)) (now (c .before .before .before .before .before .before .before .before .before .before .before .args .ins)) (now (c .before .before .before .before .before .before .before .before .before .before .before .args .begin)) (now (c .before .before .before .before .before .before .before .before .before .before .before .args .counts)) (now (c .before .before .before .before .before .before .before .before .before .before .before .args .base)) (now (c .before .before .before .before .before .before .before .before .before .before .before .args .id)) (now (c .before .before .before .before .before .before .before .before .before .before .before .args .code)) (c .before .loop .i)
+    → OperandRows (now (c .before .before .before .before .before .before .before .before .before .before .before .args .from)) (now (c .before .before .before .before .before .before .before .before .before .before .before .args .ins)) (now (c .before .before .before .before .before .before .before .before .before .before .before .args .begin)) (now (c .before .before .before .before .before .before .before .before .before .before .before .args .counts)) (now (c .before .before .before .before .before .before .before .before .before .before .before .args .base)) (now (c .before .before .before .before .before .before .before .before .before .before .before .args .id)) (now (c .before .before .before .before .before .before .before .before .before .before .before .args .code)) (c .before .loop .i)
 ready c = c .before .before .before .before .before .before .before .before .before .before .before .pre .1 .1 (c .before .loop .i) (c .loop-test .taken)
 
 room : (c : tie.In-loop Inv-loop μ-loop)

@@ -1,5 +1,4 @@
 -- `choose::cells::order_of` meets its contract.
--- Assumes nothing.
 use native.Mathlib.Omega.{arith}
 use denote.Ref.{now}
 use borrow.Author.Needs.{needs}

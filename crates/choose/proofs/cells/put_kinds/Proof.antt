@@ -1,5 +1,4 @@
 -- `choose::cells::put_kinds` meets its contract: the kinds below i are filled.
--- Assumes nothing.
 use Prim.Native.Nat.{ℕ, _-_, _/_, _≤_, _<_}
 use mathlib.Core.Path.{_≡_, refl, _∙_}
 use native.Mathlib.Omega.{arith}

@@ -1,5 +1,4 @@
 -- `choose::cells::source_of` meets its contract.
--- Assumes nothing.
 use Prim.Native.Nat.{_+_}
 use native.Mathlib.Omega.{arith}
 use borrow.Author.Needs.{needs}

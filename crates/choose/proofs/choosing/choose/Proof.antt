@@ -1,10 +1,9 @@
 -- `choose::choosing::choose` meets its contract: where nothing is chosen, nothing is to be carried; else what is found in the program is retiming's.
--- Assumes nothing.
 use mathlib.Core.Path.{subst}
 use native.Mathlib.Omega.{arith}
 use denote.Ref.{now}
 use borrow.Author.Needs.{needs}
-use Rattle.moves.specs.Moving.{Moving}
+use Rattle.moves.specs.inner.Moving.{Moving}
 use Rattle.choose.proofs.Right.{stands, chooses, chosen-none}
 use Rattle.choose.proofs.choosing.choose.Statement.{statement}
 use Rattle.choose.proofs.choosing.choose.Tie as tie

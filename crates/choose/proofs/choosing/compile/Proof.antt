@@ -1,5 +1,4 @@
 -- `choose::choosing::compile` meets its contract: the cells put together are a right program, and what is due of it is what has to be carried.
--- Assumes nothing.
 use Prim.Native.Nat.{_≤_}
 use mathlib.Core.Path.{_≡_, _∙_}
 use native.Mathlib.Omega.{arith}

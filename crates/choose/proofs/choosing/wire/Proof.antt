@@ -1,9 +1,8 @@
 -- `choose::choosing::wire` meets its contract.
--- Assumes nothing.
 use native.Mathlib.Omega.{arith}
 use borrow.Author.Needs.{needs}
 use lib.ListN.{replicate}
-use Rattle.choose.specs.Wires.{Entering}
+use Rattle.choose.specs.inner.Wires.{Entering}
 use Rattle.choose.proofs.choosing.wire.Statement.{statement}
 use Rattle.choose.proofs.choosing.wire.Tie as tie
 

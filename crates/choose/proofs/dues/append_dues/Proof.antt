@@ -1,12 +1,11 @@
 -- `choose::dues::append_dues` meets its contract: the dues of the old values below s are put.
--- Assumes nothing.
 use Prim.Native.Nat.{_+_, _-_, _≤_, _<_, min}
 use mathlib.Core.Path.{_≡_, refl, subst, ap, _∙_}
 use native.Mathlib.Omega.{arith}
 use borrow.Author.Needs.{needs}
 use denote.Ref.{now}
-use Rattle.choose.specs.Sources.{Appended}
-use Rattle.choose.specs.Dues.{cellAt, dueAt}
+use Rattle.choose.specs.inner.Sources.{Appended}
+use Rattle.choose.specs.inner.Dues.{cellAt, dueAt}
 use Rattle.choose.proofs.Sources.{appended-none, appended-more, appended-cut}
 use Rattle.choose.proofs.dues.append_dues.Statement.{statement}
 use Rattle.choose.proofs.dues.append_dues.Tie as tie

@@ -1,5 +1,4 @@
 -- `choose::dues::dues_of` meets its contract: the dues of all clocks below `low` are put.
--- Assumes nothing.
 use Prim.Native.Nat.{_-_, _≤_, _<_}
 use mathlib.Core.Path.{_≡_, _∙_}
 use native.Mathlib.Omega.{arith}
@@ -9,8 +8,8 @@ use lib.ListN.{length, length-set}
 use lib.Seq.{getD-set-same}
 use Rattle.graph.specs.Columns.{at}
 use Rattle.moves.proofs.Labels.{from-node, low-nodes, low-edges}
-use Rattle.choose.specs.Numbers.{lagAt}
-use Rattle.choose.specs.Dues.{DuesTo, FewRows}
+use Rattle.choose.specs.inner.Numbers.{lagAt}
+use Rattle.choose.specs.inner.Dues.{DuesTo, FewRows}
 use Rattle.choose.proofs.Owing.{rows-none, rows-more, dues-none, dues-all, owes-all}
 use Rattle.choose.proofs.dues.dues_of.Statement.{statement}
 use Rattle.choose.proofs.dues.dues_of.Tie as tie

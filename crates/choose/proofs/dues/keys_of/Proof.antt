@@ -1,5 +1,4 @@
 -- `choose::dues::keys_of` meets its contract: the keys below e are filled.
--- Assumes nothing.
 use Prim.Native.Nat.{ℕ, _-_, _≤_, _<_}
 use mathlib.Core.Path.{_≡_, refl, _∙_}
 use native.Mathlib.Omega.{arith}

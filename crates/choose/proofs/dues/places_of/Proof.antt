@@ -1,5 +1,4 @@
 -- `choose::dues::places_of` meets its contract: whatever is filled is a place.
--- Assumes nothing.
 use Prim.Native.Nat.{ℕ, _-_, _≤_, _<_}
 use mathlib.Core.Path.{_≡_, refl, subst, sym, _∙_}
 use native.Mathlib.Omega.{arith}

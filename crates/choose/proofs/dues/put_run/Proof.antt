@@ -1,5 +1,4 @@
 -- `choose::dues::put_run` meets its contract: the dues of this run's clocks are put, of the first p edges.
--- Assumes nothing.
 use Prim.Native.Nat.{_+_, _-_, _≤_, _<_}
 use mathlib.Core.Path.{_≡_, refl, sym, subst, _∙_}
 use native.Mathlib.Omega.{arith}
@@ -8,8 +7,8 @@ use denote.Ref.{now}
 use lib.ListN.{length, length-set}
 use Rattle.graph.specs.Columns.{at}
 use Rattle.moves.proofs.Labels.{low-edges}
-use Rattle.choose.specs.Numbers.{lagAt}
-use Rattle.choose.specs.Dues.{DuesTo}
+use Rattle.choose.specs.inner.Numbers.{lagAt}
+use Rattle.choose.specs.inner.Dues.{DuesTo}
 use Rattle.choose.proofs.Owing.{Bounds, bounds, run-begins, run-ends, run-room, few-appended, dues-more}
 use Rattle.choose.proofs.dues.put_run.Statement.{statement}
 use Rattle.choose.proofs.dues.put_run.Tie as tie

@@ -1,5 +1,4 @@
 -- `choose::dues::top_of` meets its contract: `top` is the largest lag of the nodes below v.
--- Assumes nothing.
 use Prim.Native.Nat.{ℕ, _+_, _-_, _≤_, _<_}
 use mathlib.Core.Path.{_≡_, subst, sym}
 use native.Mathlib.Omega.{arith}
@@ -7,7 +6,7 @@ use mathlib.Core.Logic.{⊎-elim}
 use native.Mathlib.Decide.{ℕ-discrete}
 use borrow.Author.Needs.{needs}
 use denote.Ref.{now}
-use Rattle.choose.specs.Numbers.{lagAt}
+use Rattle.choose.specs.inner.Numbers.{lagAt}
 use Rattle.choose.proofs.dues.top_of.Statement.{statement}
 use Rattle.choose.proofs.dues.top_of.Tie as tie
 

@@ -1,5 +1,4 @@
 -- `gates::truths::gate_by` meets its contract: each arm gives what the table has for its kind.
--- Assumes nothing.
 use Prim.Native.Nat.{ℕ, _-_, _<_}
 use mathlib.Core.Path.{_≡_, refl, ap}
 use native.Mathlib.Decide.{ℕ-discrete}

@@ -1,5 +1,4 @@
 -- `gates::truths::index_table` meets its contract: the words below w are counted.
--- Assumes nothing.
 use Prim.Native.Nat.{ℕ, _-_, _≤_, _<_}
 use mathlib.Core.Path.{_≡_, refl, _∙_}
 use native.Mathlib.Omega.{arith}

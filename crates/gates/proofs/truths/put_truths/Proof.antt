@@ -1,5 +1,4 @@
 -- `gates::truths::put_truths` meets its contract: the words below i are right.
--- Assumes nothing.
 use Prim.Native.Nat.{ℕ, suc, _+_, _-_, _≤_, _<_}
 use mathlib.Core.Path.{_≡_, refl, sym, _∙_, subst}
 use native.Mathlib.Omega.{arith}
@@ -8,7 +7,7 @@ use mathlib.Core.List.{List}
 use lib.ListN.{length, length-set}
 use borrow.Author.Needs.{needs}
 use Rattle.graph.specs.Columns.{at}
-use Rattle.gates.specs.Gates.{Reckons}
+use Rattle.gates.specs.inner.Gates.{Reckons}
 use Rattle.gates.proofs.Row.{fill-with}
 use Rattle.gates.proofs.truths.put_truths.Statement.{statement}
 use Rattle.gates.proofs.truths.put_truths.Tie as tie

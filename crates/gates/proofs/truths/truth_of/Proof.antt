@@ -1,5 +1,4 @@
 -- `gates::truths::truth_of` meets its contract: the bits below k are the gate's values.
--- Assumes nothing.
 use Prim.Native.Nat.{_+_, _-_, _*_, _^_, _%_, _≤_}
 use mathlib.Core.Path.{_≡_, subst}
 use native.Mathlib.Omega.{arith}

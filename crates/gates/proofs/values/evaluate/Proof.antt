@@ -1,5 +1,4 @@
 -- `gates::values::evaluate` meets its contract: the first i gates of the list are evaluated.
--- Assumes nothing.
 use Prim.Native.Nat.{ℕ, suc, _+_, _-_, _≤_}
 use mathlib.Core.Path.{_≡_, refl, sym, ap, ap₂, _∙_}
 use mathlib.Core.List.{List, map}
@@ -9,7 +8,7 @@ use lib.ListN.{length, set, length-set}
 use borrow.Author.Needs.{needs}
 use Rattle.theory.specs.Gate.{gate}
 use Rattle.graph.specs.Columns.{at}
-use Rattle.gates.specs.Gates.{part, AllBits, evaluated, Placed, Truths}
+use Rattle.gates.specs.inner.Gates.{part, AllBits, evaluated, GateRows, Truths}
 use Rattle.gates.proofs.Row.{bits-set, placed-seen, evaluated-more}
 use Rattle.gates.proofs.values.evaluate.Statement.{statement}
 use Rattle.gates.proofs.values.evaluate.Tie as tie
@@ -25,7 +24,7 @@ unfolding evaluated
 loop-holds c = (omega arith, refl, c .before .before .before .before .before .before .pre .bits, λ kind t. refl)
 
 -- The gate of this turn has its place.
-placed : (c : tie.In-loop Inv-loop μ-loop) → let a = c .before .before .before .before .before .before .before .before .args in Placed (a .truth .now) (a .first .now) (a .list .now) (a .base) (length (a .sig .now)) (at (a .node .now) (c .before .loop .i))
+placed : (c : tie.In-loop Inv-loop μ-loop) → let a = c .before .before .before .before .before .before .before .before .args in GateRows (a .truth .now) (a .first .now) (a .list .now) (a .base) (length (a .sig .now)) (at (a .node .now) (c .before .loop .i))
 placed c = c .before .before .before .before .before .before .before .before .pre .placed (c .before .loop .i) (c .loop-test .taken)
 
 mul-v : tie.Need-mul-v Inv-loop μ-loop

@@ -1,5 +1,4 @@
 -- `gates::values::gather` meets its contract: what is left, gathered behind the word, is all gathered behind the seed.
--- Assumes nothing.
 use Prim.Native.Nat.{suc, _+_, _-_, _*_, _^_, _≤_, _<_}
 use mathlib.Core.Path.{_≡_, refl, ap, sym, subst, _∙_}
 use native.Mathlib.Omega.{arith}
@@ -7,7 +6,7 @@ use mathlib.Core.List.{map}
 use lib.ListN.{length}
 use borrow.Author.Needs.{needs}
 use Rattle.graph.specs.Columns.{at}
-use Rattle.gates.specs.Gates.{part, wordFrom}
+use Rattle.gates.specs.inner.Gates.{part, wordFrom}
 use Rattle.gates.proofs.Words.{part-none, part-more, word-none, word-more, word-wider, seed-narrow}
 use Rattle.gates.proofs.values.gather.Statement.{statement}
 use Rattle.gates.proofs.values.gather.Tie as tie

@@ -1,5 +1,4 @@
 -- `gates::values::value` meets its contract: the table picks the bit of the truth word that the gathered word asks for.
--- Assumes nothing.
 use Prim.Native.Nat.{suc, _-_, _*_, _/_, _^_, _≤_}
 use mathlib.Core.Path.{_≡_, ap, subst, _∙_}
 use mathlib.Core.List.{map}
@@ -8,7 +7,7 @@ use lib.Count.{ones, ones-le}
 use lib.ListN.{length-map}
 use borrow.Author.Needs.{needs}
 use Rattle.graph.specs.Columns.{at, bit}
-use Rattle.gates.specs.Gates.{part}
+use Rattle.gates.specs.inner.Gates.{part}
 use Rattle.gates.proofs.Words.{part-length}
 use Rattle.gates.proofs.Row.{seen-bits}
 use Rattle.gates.proofs.values.value.Statement.{statement}

@@ -1,11 +1,10 @@
 -- `graph::chains::relax` meets its contract: the three ways to return are the two ways of `Relaxed`.
--- Assumes nothing.
 use mathlib.Core.Path.{refl, ap}
 use native.Mathlib.Omega.{arith}
 use lib.ListN.{set}
 use denote.Ref.{now}
 use Rattle.graph.specs.Columns.{at}
-use Rattle.graph.specs.Sweeps.{rises, stays}
+use Rattle.graph.specs.inner.Sweeps.{rises, stays}
 use borrow.Author.Needs.{needs}
 use Rattle.graph.proofs.chains.relax.Statement.{statement}
 use Rattle.graph.proofs.chains.relax.Tie as tie

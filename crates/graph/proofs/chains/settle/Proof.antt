@@ -1,11 +1,10 @@
 -- `graph::chains::settle` meets its contract. The loop keeps times that are reached, and stops with times that no edge changes.
 -- The measure is the times' slack and the last sweep's count: a sweep takes from the slack what it counts.
--- Assumes nothing.
 use Prim.Native.Nat.{_+_}
 use mathlib.Core.Path.{refl}
 use native.Mathlib.Omega.{arith}
 use denote.Ref.{now}
-use Rattle.graph.specs.Sweeps.{slack}
+use Rattle.graph.specs.inner.Sweeps.{slack}
 use Rattle.graph.proofs.Steps.{start-times, Sweeping, sweeping-end}
 use borrow.Author.Needs.{needs}
 use Rattle.graph.proofs.chains.settle.Statement.{statement}

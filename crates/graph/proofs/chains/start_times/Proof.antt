@@ -1,5 +1,4 @@
 -- `graph::chains::start_times` meets its contract: the times below v are filled, by `fill-more`.
--- Assumes nothing.
 use Prim.Native.Nat.{ℕ, _-_, _≤_, _<_}
 use mathlib.Core.Path.{_≡_, _∙_}
 use native.Mathlib.Omega.{arith}

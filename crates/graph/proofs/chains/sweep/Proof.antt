@@ -1,5 +1,4 @@
 -- `graph::chains::sweep` meets its contract. The loop's invariant is the `State` of Steps; a turn is `state-turn`.
--- Assumes nothing.
 use Prim.Native.Nat.{_-_}
 use native.Mathlib.Omega.{arith}
 use Rattle.graph.proofs.Steps.{State, state-start, times-read, state-turn, state-end, relaxed-few}

@@ -1,11 +1,10 @@
 -- `graph::chains::sweep_back` meets its contract: any edge keeps what the times owe (`relax-eases`).
--- Assumes nothing.
 use Prim.Native.Nat.{_≤_, _-_}
 use mathlib.Core.Path.{refl}
 use native.Mathlib.Omega.{arith}
 use denote.Ref.{now}
 use borrow.Author.Needs.{needs}
-use Rattle.graph.specs.Sweeps.{Eased}
+use Rattle.graph.specs.inner.Sweeps.{Eased}
 use Rattle.graph.proofs.Steps.{times-read, relax-eases}
 use Rattle.graph.proofs.chains.sweep_back.Statement.{statement}
 use Rattle.graph.proofs.chains.sweep_back.Tie as tie

@@ -1,5 +1,4 @@
 -- `graph::reach::any_above` meets its contract: no time below v is above the period.
--- Assumes nothing.
 use Prim.Native.Nat.{ℕ, _-_, _≤_, _<_}
 use native.Mathlib.Omega.{arith}
 use lib.ListN.{getD}

@@ -1,5 +1,4 @@
 -- `graph::reach::fan_ins` meets its contract: the edges that enter a node are counted.
--- Assumes nothing.
 use Rattle.graph.proofs.Answers.{same-at}
 use native.Mathlib.Omega.{arith}
 use borrow.Author.Needs.{needs}

@@ -1,5 +1,4 @@
 -- `graph::reach::looped` meets its contract: `loop-told` of the times that `settle` leaves.
--- Assumes nothing.
 use mathlib.Core.Path.{refl}
 use native.Mathlib.Omega.{arith}
 use denote.Ref.{now}

@@ -1,5 +1,4 @@
 -- `graph::reach::mark` meets its contract.
--- Assumes nothing.
 use borrow.Author.Tests.{eq-eqb, ne-eqb}
 use Rattle.graph.proofs.reach.mark.Statement.{statement}
 use Rattle.graph.proofs.reach.mark.Tie as tie

@@ -1,11 +1,10 @@
 -- `graph::reach::marks` meets its contract: the marks below v are filled, by `fill-more`.
--- Assumes nothing.
 use Prim.Native.Nat.{ℕ, _-_, _≤_, _<_}
 use mathlib.Core.Path.{_≡_, refl, _∙_}
 use native.Mathlib.Omega.{arith}
 use denote.Ref.{now}
 use lib.ListN.{length, getD, length-set}
-use Rattle.graph.specs.Marks.{markOf}
+use Rattle.graph.specs.inner.Marks.{markOf}
 use Rattle.graph.proofs.Fills.{fill-more}
 use borrow.Author.Needs.{needs}
 use Rattle.graph.proofs.reach.marks.Statement.{statement}

@@ -1,5 +1,4 @@
 -- `lags::rounds::arrivals` meets its contract: `settle_along` on the record's columns.
--- Assumes nothing.
 use native.Mathlib.Omega.{arith}
 use denote.Ref.{now}
 use Rattle.theory.proofs.labels.Arrival.{arrival-same}

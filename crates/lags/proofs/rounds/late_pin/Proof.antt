@@ -1,5 +1,4 @@
 -- `lags::rounds::late_pin` meets its contract: no pin below v is late.
--- Assumes nothing.
 use Prim.Native.Nat.{ℕ, _-_, _≤_, _<_}
 use mathlib.Core.Logic.{⊎-elim}
 use native.Mathlib.Omega.{arith}

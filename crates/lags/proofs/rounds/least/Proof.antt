@@ -1,6 +1,5 @@
 -- `lags::rounds::least` meets its contract. The loop's invariant: the labels are what `round` rounds make of the first ones, none begun with a late pin.
 -- The four ways to end are laws of Search.
--- Assumes nothing.
 use Prim.Native.Nat.{_-_}
 use native.Mathlib.Omega.{arith}
 use borrow.Author.Tests.{not-true}

@@ -1,5 +1,4 @@
 -- `lags::rounds::order_of` meets its contract.
--- Assumes nothing.
 use native.Mathlib.Omega.{arith}
 use borrow.Author.Needs.{needs}
 use Rattle.netlist.proofs.Lowest.{laid}

@@ -1,5 +1,4 @@
 -- `lags::rounds::raise` meets its contract. The loop's invariant is the `Lifting` of Search.
--- Assumes nothing.
 use Prim.Native.Nat.{_-_}
 use mathlib.Core.Logic.{⊎-elim}
 use native.Mathlib.Omega.{arith}

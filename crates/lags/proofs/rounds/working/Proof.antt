@@ -1,5 +1,4 @@
 -- `lags::rounds::working` meets its contract.
--- Assumes nothing.
 use mathlib.Core.Path.{refl}
 use native.Mathlib.Omega.{arith}
 use Rattle.netlist.specs.Net.{working}

@@ -1,5 +1,4 @@
 -- `lags::rounds::working_delays` meets its contract: the delays below v are filled, by `fill-more`.
--- Assumes nothing.
 use Prim.Native.Nat.{ℕ, _-_, _≤_, _<_}
 use mathlib.Core.Path.{_≡_, refl, _∙_}
 use native.Mathlib.Omega.{arith}

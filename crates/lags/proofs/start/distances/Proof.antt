@@ -1,10 +1,9 @@
 -- `lags::start::distances` meets its contract. The loop keeps distances that are reached, and stops with distances that no edge shortens.
 -- The measure is the sum of the distances and the last sweep's answer: a sweep that shortens makes the sum fall.
--- Assumes nothing.
 use Prim.Native.Nat.{_+_}
 use native.Mathlib.Omega.{arith}
 use Rattle.netlist.proofs.Lowest.{few}
-use Rattle.lags.specs.Starts.{reach}
+use Rattle.lags.specs.inner.Starts.{distanceSum}
 use Rattle.lags.proofs.Starts.{Sweeping, far-start}
 use borrow.Author.Needs.{needs}
 use Rattle.lags.proofs.start.distances.Statement.{statement}
@@ -14,7 +13,7 @@ abbrev Inv-loop : tie.InvT-loop
 Inv-loop net far₀ changed₀ far changed = Sweeping net far changed
 
 abbrev μ-loop : tie.MeasureT-loop
-μ-loop net far₀ changed₀ far changed = reach net far + changed
+μ-loop net far₀ changed₀ far changed = distanceSum net far + changed
 
 cast-start-far : tie.Need-cast-start-far Inv-loop μ-loop
 cast-start-far c = search needs

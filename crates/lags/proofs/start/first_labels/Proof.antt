@@ -1,5 +1,4 @@
 -- `lags::start::first_labels` meets its contract: the labels of the distances.
--- Assumes nothing.
 use Rattle.netlist.proofs.Lowest.{few}
 use borrow.Author.Needs.{needs}
 use Rattle.lags.proofs.start.first_labels.Statement.{statement}

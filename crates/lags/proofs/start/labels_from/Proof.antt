@@ -1,5 +1,4 @@
 -- `lags::start::labels_from` meets its contract: the labels below v are filled, by `fill-more`.
--- Assumes nothing.
 use Prim.Native.Nat.{ℕ, _-_, _≤_, _<_}
 use mathlib.Core.Path.{_≡_, refl, _∙_}
 use native.Mathlib.Omega.{arith}

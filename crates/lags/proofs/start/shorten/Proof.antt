@@ -1,5 +1,4 @@
 -- `lags::start::shorten` meets its contract. The loop's invariant is the `State` of Starts.
--- Assumes nothing.
 use Prim.Native.Nat.{_-_, _<_}
 use mathlib.Core.Logic.{⊎-elim}
 use native.Mathlib.Omega.{arith}

@@ -1,12 +1,11 @@
 -- `lags::start::start_far` meets its contract: the distances below v are filled, by `fill-more`.
--- Assumes nothing.
 use Prim.Native.Nat.{ℕ, _-_, _≤_, _<_}
 use mathlib.Core.Path.{_≡_, refl, _∙_}
 use native.Mathlib.Omega.{arith}
 use denote.Ref.{now}
 use lib.ListN.{length, getD, length-set}
 use Rattle.graph.proofs.Fills.{fill-more}
-use Rattle.lags.specs.Starts.{startOf}
+use Rattle.lags.specs.inner.Starts.{startOf}
 use borrow.Author.Needs.{needs}
 use Rattle.lags.proofs.start.start_far.Statement.{statement}
 use Rattle.lags.proofs.start.start_far.Tie as tie

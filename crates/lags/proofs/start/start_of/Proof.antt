@@ -1,7 +1,6 @@
 -- `lags::start::start_of` meets its contract.
--- Assumes nothing.
 use borrow.Author.Tests.{le-leb, lt-leb}
-use Rattle.lags.specs.Starts.{startOf}
+use Rattle.lags.specs.inner.Starts.{startOf}
 use Rattle.lags.proofs.start.start_of.Statement.{statement}
 use Rattle.lags.proofs.start.start_of.Tie as tie
 

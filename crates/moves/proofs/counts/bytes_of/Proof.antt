@@ -1,5 +1,4 @@
 -- `moves::counts::bytes_of` meets its contract: the bytes below e are filled, the others are 0.
--- Assumes nothing.
 use Prim.Native.Nat.{_-_, _≤_}
 use mathlib.Core.Path.{_≡_, refl, subst, _∙_}
 use native.Mathlib.Omega.{arith}
@@ -7,7 +6,7 @@ use denote.Ref.{now}
 use lib.ListN.{length, length-set}
 use borrow.Author.Needs.{needs}
 use Rattle.graph.specs.Columns.{at}
-use Rattle.moves.specs.Moved.{Filled, none}
+use Rattle.moves.specs.inner.Columns.{Filled, none}
 use Rattle.moves.proofs.Fills.{filled-zeros, filled-more}
 use Rattle.moves.proofs.counts.bytes_of.Statement.{statement}
 use Rattle.moves.proofs.counts.bytes_of.Tie as tie

@@ -1,5 +1,4 @@
 -- `moves::counts::chosen` meets its contract: the sums up to e are filled, and each edge adds at most 32.
--- Assumes nothing.
 use Prim.Native.Nat.{ℕ, _+_, _*_, _-_, _≤_, _<_}
 use mathlib.Core.Path.{_≡_, refl, sym, ap₂, _∙_}
 use native.Mathlib.Omega.{arith}
@@ -9,7 +8,7 @@ use borrow.Author.Needs.{needs}
 use Rattle.theory.specs.Move.{sum}
 use Rattle.graph.specs.Columns.{at}
 use Rattle.graph.proofs.Fills.{fill-more}
-use Rattle.moves.specs.Labels.{chosenAt}
+use Rattle.moves.specs.inner.Labels.{chosenAt}
 use Rattle.moves.proofs.Labels.{to-node, low-edge, sum-more, base-none, sum-none, chosen-is}
 use Rattle.moves.proofs.counts.chosen.Statement.{statement}
 use Rattle.moves.proofs.counts.chosen.Tie as tie

@@ -1,5 +1,4 @@
 -- `moves::counts::new_counts` meets its contract: the new counts below e are filled.
--- Assumes nothing.
 use Prim.Native.Nat.{ℕ, _-_, _≤_, _<_}
 use mathlib.Core.Path.{_≡_, refl, _∙_}
 use native.Mathlib.Omega.{arith}
@@ -8,7 +7,7 @@ use lib.ListN.{length, length-set}
 use borrow.Author.Needs.{needs}
 use Rattle.graph.specs.Columns.{at}
 use Rattle.graph.proofs.Fills.{fill-more}
-use Rattle.moves.specs.Labels.{countAt}
+use Rattle.moves.specs.inner.Labels.{countAt}
 use Rattle.moves.proofs.Labels.{from-node, to-node, low-edge, new-fits, new-is}
 use Rattle.moves.proofs.counts.new_counts.Statement.{statement}
 use Rattle.moves.proofs.counts.new_counts.Tie as tie

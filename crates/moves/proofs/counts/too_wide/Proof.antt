@@ -1,5 +1,4 @@
 -- `moves::counts::too_wide` meets its contract: no count below e is above 32.
--- Assumes nothing.
 use Prim.Native.Nat.{ℕ, _-_, _≤_, _<_}
 use native.Mathlib.Omega.{arith}
 use denote.Ref.{now}

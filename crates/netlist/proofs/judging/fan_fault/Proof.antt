@@ -1,21 +1,20 @@
 -- `netlist::judging::fan_fault` meets its contract. The loop's invariant: all nodes below v keep rule 5.
--- Assumes nothing.
 use Prim.Native.Nat.{_-_, _≤_}
 use mathlib.Core.Path.{refl}
 use native.Mathlib.Omega.{arith}
 use borrow.Author.Count.{below-more}
 use borrow.Author.Needs.{needs}
 use borrow.Author.Tests.{not-true, not-false}
-use Rattle.graph.specs.Columns.{Told}
+use Rattle.graph.specs.inner.Laid.{Told}
 use Rattle.netlist.specs.Net.{graphOf}
-use Rattle.netlist.specs.Read.{FanIn, All}
-use Rattle.netlist.specs.Stages.{none}
+use Rattle.netlist.specs.Read.{FanInFits, All}
+use Rattle.netlist.specs.inner.Stages.{none}
 use Rattle.netlist.proofs.Lowest.{few, laid, fan-test, told-yes, told-no, sought-lowest}
 use Rattle.netlist.proofs.judging.fan_fault.Statement.{statement}
 use Rattle.netlist.proofs.judging.fan_fault.Tie as tie
 
 abbrev Inv-loop : tie.InvT-loop
-Inv-loop net nodes ins v₀ v = (v ≤ nodes) × All (FanIn (graphOf net)) v
+Inv-loop net nodes ins v₀ v = (v ≤ nodes) × All (FanInFits (graphOf net)) v
 
 abbrev μ-loop : tie.MeasureT-loop
 μ-loop net nodes ins v₀ v = nodes - v
@@ -48,7 +47,7 @@ cast-t22 : tie.Need-cast-t22 Inv-loop μ-loop
 cast-t22 c = search needs
 
 -- What the test of this turn says.
-told : (c : tie.After-fan-fits Inv-loop μ-loop) → Told (c .fan-fits .result) (FanIn (graphOf (c .before .before .before .before .before .before .before .before .before .before .args .t1)) (c .before .before .before .loop .v))
+told : (c : tie.After-fan-fits Inv-loop μ-loop) → Told (c .fan-fits .result) (FanInFits (graphOf (c .before .before .before .before .before .before .before .before .before .before .args .t1)) (c .before .before .before .loop .v))
 told c =
     let net = c .before .before .before .before .before .before .before .before .before .before .args .t1 in
     fan-test (graphOf net) (c .before .before .before .loop .v) _ _ (c .before .before .before .before .fan-ins .ensures (net .kind) (c .before .before .before .loop .v) (c .before .before .loop-test .taken)) (c .fan-fits .ensures)

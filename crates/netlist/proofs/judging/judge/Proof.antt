@@ -1,5 +1,4 @@
 -- `netlist::judging::judge` meets its contract: rule 5, then 6, then 7.
--- Assumes nothing.
 use mathlib.Core.Path.{refl}
 use native.Mathlib.Omega.{arith}
 use borrow.Author.Needs.{needs}

@@ -1,5 +1,4 @@
 -- `netlist::judging::reach_fault` meets its contract. The loop's invariant: all nodes below v have both marks.
--- Assumes nothing.
 use Prim.Native.Nat.{ℕ, _-_, _<_, _≤_}
 use mathlib.Core.Path.{_≡_, refl}
 use native.Mathlib.Omega.{arith}
@@ -7,10 +6,11 @@ use borrow.Author.Count.{below-more}
 use borrow.Author.Needs.{needs}
 use lib.Dec.{eqb}
 use Rattle.theory.specs.Graph.{Graph, Wired}
-use Rattle.graph.specs.Columns.{at, reverse, From, Told}
+use Rattle.graph.specs.Columns.{at}
+use Rattle.graph.specs.inner.Laid.{reverse, From, Told}
 use Rattle.netlist.specs.Net.{graphOf}
-use Rattle.netlist.specs.Read.{Joined, All}
-use Rattle.netlist.specs.Stages.{none}
+use Rattle.netlist.specs.Read.{InReach, All}
+use Rattle.netlist.specs.inner.Stages.{none}
 use Rattle.netlist.proofs.Run.{fit-wired}
 use Rattle.netlist.proofs.Lowest.{few, laid, joined-yes, unfed, unused, sought-lowest}
 use Rattle.netlist.proofs.judging.reach_fault.Statement.{statement}
@@ -39,7 +39,7 @@ module _ (c : tie.At-loop Inv-loop μ-loop) where
   marks : (v : ℕ) → v < G .nodes → Told (eqb (fed v) 1) (From G 0 v) × Told (eqb (used v) 1) (From (reverse G) 1 v)
   marks v h = (c .before .before .before .before .before .before .before .before .before .reached .ensures v h, c .before .reached2 .ensures v h)
 
-  all : c .loop .v ≤ G .nodes → All (Joined G) (c .loop .v)
+  all : c .loop .v ≤ G .nodes → All (InReach G) (c .loop .v)
   all h v k = let m = marks v (omega arith) in let b = c .loop .inv .1 v k in joined-yes wired v (fed v) (used v) (m .0) (m .1) (b .0) (b .1)
 
 cast-nodes : tie.Need-cast-nodes Inv-loop μ-loop

@@ -1,5 +1,4 @@
 -- `netlist::lines::read` meets its contract: the lines, then the rules of the whole.
--- Assumes nothing.
 use mathlib.Core.Path.{_≡_, _∙_}
 use borrow.Author.Needs.{needs}
 use Rattle.netlist.specs.Read.{linesOf, lines, judged}

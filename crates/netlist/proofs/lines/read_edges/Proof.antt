@@ -1,6 +1,5 @@
 -- `netlist::lines::read_edges` meets its contract. The loop's invariant: the lines from the cursor on, with the record filled so far, come to what all the
 -- edge lines come to; the head is kept.
--- Assumes nothing.
 use Prim.Native.Nat.{ℕ, suc, _+_, _-_, _*_, _≤_}
 use mathlib.Core.Path.{_≡_, refl, ap, ap₂, sym, _∙_}
 use mathlib.Core.Bool.{Bool, true, false}

@@ -1,5 +1,4 @@
 -- `netlist::lines::read_head` meets its contract: no head line, a head out of range, a head.
--- Assumes nothing.
 use Prim.Native.Nat.{_≤_}
 use mathlib.Core.Path.{_≡_, refl, sym, _∙_, subst}
 use native.Mathlib.Omega.{arith}

@@ -1,9 +1,8 @@
 -- `netlist::lines::read_lines` meets its contract: each stage goes on where the one before it ended, or its fault stands.
--- Assumes nothing.
 use Prim.Native.Nat.{_+_}
 use mathlib.Core.Path.{_≡_, _∙_}
 use lib.ListN.{drop}
-use Rattle.netlist.specs.Read.{linesOf, nodesFrom, edgesFrom, ends, lines}
+use Rattle.netlist.specs.Read.{linesOf, nodesFrom, edgesFrom, nothingMore, lines}
 use Rattle.netlist.proofs.Stages.{goes-on, goes-stop, goes-done, goes-end, ends-surplus, ends-none}
 use borrow.Author.Needs.{needs}
 use Rattle.netlist.proofs.lines.read_lines.Statement.{statement}
@@ -21,7 +20,7 @@ noded c = headed (c .before .before .before .before) ∙ goes-done _ _ _ (c .bef
 
 edged : (c : tie.After-enum-told5)
     → linesOf (c .before .before .before .before .before .before .before .before .before .before .before .before .before .args .text .now)
-    ≡ ends (drop (c .before .before .before .read-edges .result .at) (c .before .before .before .before .before .before .before .before .before .before .before .before .before .args .text .now)) (2 + c .before .before .before .read-edges .result .net .nodes + c .before .before .before .read-edges .result .net .edges) (c .before .before .before .read-edges .result .net)
+    ≡ nothingMore (drop (c .before .before .before .read-edges .result .at) (c .before .before .before .before .before .before .before .before .before .before .before .before .before .args .text .now)) (2 + c .before .before .before .read-edges .result .net .nodes + c .before .before .before .read-edges .result .net .edges) (c .before .before .before .read-edges .result .net)
 edged c = noded (c .before .before .before .before) ∙ goes-done _ _ _ (c .before .before .before .read-edges .result .net) (c .enum-told5 .given .1) (c .before .before .before .read-edges .ensures .0)
 
 read-head-requires : tie.Need-read-head-requires

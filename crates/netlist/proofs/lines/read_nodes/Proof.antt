@@ -1,6 +1,5 @@
 -- `netlist::lines::read_nodes` meets its contract. The loop's invariant: the lines from the cursor on, with the record filled so far, come to what all the
 -- node lines come to; the head is kept.
--- Assumes nothing.
 use Prim.Native.Nat.{ℕ, suc, _+_, _-_, _≤_}
 use mathlib.Core.Path.{_≡_, refl, sym, _∙_}
 use mathlib.Core.List.{List}

@@ -1,5 +1,4 @@
 -- `netlist::lines::with_head` meets its contract.
--- Assumes nothing.
 use mathlib.Core.Path.{refl}
 use Rattle.netlist.specs.Net.{zeros, withHead}
 use Rattle.netlist.proofs.lines.with_head.Statement.{statement}

@@ -1,5 +1,4 @@
 -- `netlist::writing::check` meets its contract: a head out of its ranges is the first line's fault.
--- Assumes nothing.
 use mathlib.Core.Path.{sym, _∙_}
 use borrow.Author.Needs.{needs}
 use borrow.Author.Tests.{not-true, not-false}

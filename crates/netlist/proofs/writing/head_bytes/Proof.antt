@@ -1,5 +1,4 @@
 -- `netlist::writing::head_bytes` meets its contract: each byte is the definition's, and one of a byte is itself.
--- Assumes nothing.
 use Prim.Native.Nat.{_%_}
 use mathlib.Core.Path.{_≡_}
 use native.Mathlib.Omega.{arith}

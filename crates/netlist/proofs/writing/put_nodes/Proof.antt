@@ -1,13 +1,11 @@
 -- `netlist::writing::put_nodes` meets its contract. The loop's invariant: the lines of the rows below i stand at `at0`, and the cursor is behind them.
--- Assumes nothing.
 use Prim.Native.Nat.{_+_, _-_, _*_, _≤_}
 use mathlib.Core.Path.{_≡_, ap, ap₂, _∙_}
 use native.Mathlib.Omega.{arith}
 use lib.ListN.{length}
 use lib.Seq.{sets, length-sets}
 use borrow.Author.Needs.{needs}
-use Rattle.frame.specs.Frame.{lineOf}
-use Rattle.frame.specs.Decoded.{placed}
+use Rattle.frame.specs.Frame.{lineOf, placed}
 use Rattle.netlist.specs.Write.{nodeLine, joined}
 use Rattle.netlist.proofs.Written.{length-joined, node-length, put-more}
 use Rattle.netlist.proofs.writing.put_nodes.Statement.{statement}

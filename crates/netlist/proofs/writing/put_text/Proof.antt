@@ -1,13 +1,11 @@
 -- `netlist::writing::put_text` meets its contract: nothing, or the head, the node lines and the edge lines, each behind the one before.
--- Assumes nothing.
 use Prim.Native.Nat.{_≤_}
 use mathlib.Core.Path.{_≡_, ap, ap₂, sym, _∙_}
 use native.Mathlib.Omega.{arith}
 use lib.ListN.{length}
 use lib.Seq.{sets}
 use borrow.Author.Needs.{needs}
-use Rattle.frame.specs.Frame.{lineOf}
-use Rattle.frame.specs.Decoded.{placed}
+use Rattle.frame.specs.Frame.{lineOf, placed}
 use Rattle.netlist.specs.Write.{nodeLine, edgeLine, joined, textOf, textIn}
 use Rattle.netlist.proofs.Written.{length-joined, node-length, edge-length, text-length, text-parts, text-in, text-nodes, text-edges, text-room}
 use Rattle.netlist.proofs.writing.put_text.Statement.{statement}

@@ -1,5 +1,4 @@
 -- `netlist::writing::reread` meets its contract: what is read is the text.
--- Assumes nothing.
 use Prim.Native.Nat.{ℕ, _≤_}
 use mathlib.Core.Path.{_≡_, sym, subst}
 use native.Mathlib.Omega.{arith}

@@ -1,5 +1,4 @@
 -- `netlist::writing::text_len` meets its contract, by the lengths of the lines.
--- Assumes nothing.
 use native.Mathlib.Omega.{arith}
 use borrow.Author.Needs.{needs}
 use Rattle.netlist.proofs.Written.{text-length}

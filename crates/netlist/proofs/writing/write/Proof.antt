@@ -1,5 +1,4 @@
 -- `netlist::writing::write` meets its contract: the rules of the record, then 12, then its text.
--- Assumes nothing.
 use Prim.Native.Nat.{_≤_}
 use mathlib.Core.Path.{subst}
 use native.Mathlib.Omega.{arith}

@@ -1,5 +1,4 @@
 -- `retimer::coded::answer_code` meets its contract.
--- Assumes nothing.
 use mathlib.Core.Path.{_≡_, refl, ap, sym, _∙_}
 use Prim.Native.Nat.{ℕ, _+_, _*_}
 use Rattle.netlist.specs.Answer.{says}

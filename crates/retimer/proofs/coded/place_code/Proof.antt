@@ -1,5 +1,4 @@
 -- `retimer::coded::place_code` meets its contract.
--- Assumes nothing.
 use mathlib.Core.Path.{ap, sym}
 use native.Mathlib.Omega.{arith}
 use Rattle.retimer.specs.Code.{place}

@@ -1,5 +1,4 @@
 -- `retimer::coded::read_coded` meets its contract: after a refusal the record is the one that was lent.
--- Assumes nothing.
 use mathlib.Core.Path.{_≡_, refl, ap, sym, _∙_}
 use mathlib.Core.List.{List}
 use Prim.Native.Nat.{ℕ}

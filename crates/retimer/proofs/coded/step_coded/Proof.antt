@@ -1,5 +1,4 @@
 -- `retimer::coded::step_coded` meets its contract: that of the call under it, with the answer as a number.
--- Assumes nothing.
 use borrow.Author.Needs.{needs}
 use Rattle.netlist.specs.Answer.{says}
 use Rattle.retimer.proofs.coded.step_coded.Statement.{statement}

@@ -1,5 +1,4 @@
 -- `search::choices::advance` meets its contract: from place x on the bits are 0, and below they are as they were.
--- Assumes nothing.
 use Prim.Native.Nat.{_-_, _≤_, _<_}
 use mathlib.Core.Path.{_≡_, refl, ap, sym, _∙_}
 use native.Mathlib.Omega.{arith}
@@ -7,7 +6,7 @@ use mathlib.Core.Logic.{⊎-elim, inl, inr}
 use borrow.Author.Tests.{ltb-false, eqb-true, eqb-false}
 use lib.ListN.{length-set}
 use Rattle.graph.specs.Columns.{at}
-use Rattle.search.specs.States.{nextAfter}
+use Rattle.search.specs.inner.States.{nextAfter}
 use Rattle.search.proofs.Next.{Advancing, advancing-turn, advanced-one, advanced-none}
 use borrow.Author.Needs.{needs}
 use Rattle.search.proofs.choices.advance.Statement.{statement}

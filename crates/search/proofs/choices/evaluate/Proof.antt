@@ -1,18 +1,17 @@
 -- `search::choices::evaluate` meets its contract: the cells below i are evaluated, under whatever choice those below `start` were.
--- Assumes nothing.
 use Prim.Native.Nat.{_+_, _-_, _≤_, _<_}
 use mathlib.Core.Path.{sym, _∙_}
 use native.Mathlib.Omega.{arith}
 use denote.Ref.{now}
 use Rattle.graph.specs.Columns.{at}
-use Rattle.search.specs.States.{Valued, Carried}
+use Rattle.search.specs.inner.States.{Valued, GoesOn}
 use Rattle.search.proofs.States.{truth-next, valued-seen, valued-value, valued-more}
 use borrow.Author.Needs.{needs}
 use Rattle.search.proofs.choices.evaluate.Statement.{statement}
 use Rattle.search.proofs.choices.evaluate.Tie as tie
 
 abbrev Inv-loop : tie.InvT-loop
-Inv-loop truth index first operand start end sig₀ i₀ sig i = (start ≤ i) × Carried truth index first operand end start sig₀ i sig
+Inv-loop truth index first operand start end sig₀ i₀ sig i = (start ≤ i) × GoesOn truth index first operand end start sig₀ i sig
 
 abbrev μ-loop : tie.MeasureT-loop
 μ-loop truth index first operand start end sig₀ i₀ sig i = end - i

@@ -1,6 +1,5 @@
 -- `search::choices::first_choice` meets its contract. All three loops keep the search's state; the inner two change the choice only where they leave for the outer
 -- one. Each turn is a law of proofs/States.
--- Assumes nothing.
 use Prim.Native.Nat.{ℕ, _+_, _-_, _<_, suc, _^_, _/_}
 use mathlib.Core.Path.{_≡_, refl, ap, _∙_}
 use native.Mathlib.Omega.{arith}
@@ -9,7 +8,7 @@ use lib.ListN.{length-replicate, getD-replicate}
 use denote.Ref.{now}
 use mathlib.Core.List.{List}
 use Rattle.graph.specs.Columns.{at}
-use Rattle.search.specs.States.{Ready}
+use Rattle.search.specs.inner.States.{Executable}
 use Rattle.search.proofs.Values.{value-bit}
 use Rattle.search.proofs.States.{Searching, searching-start, searching-on, searching-turn, searching-jump, jump-up, searching-end, searching-none}
 use borrow.Author.Needs.{needs}
@@ -55,7 +54,7 @@ abbrev suc-k : (xs : List ℕ) (k : ℕ) → at xs (k + 1) ≡ at xs (suc k)
 suc-k xs k = ap (at xs) (add-one k)
 
 ready : (c : tie.After-put-truths Inv-loop2 μ-loop2 Inv-loop μ-loop Inv-search μ-search) → (let a = c .before .before .before .before .before .before .before .before .before .before .before .before .before .args in
-    Ready (at (now (a .levels)) (suc (a .k))) (a .k) (now (a .kind)) (now (a .first)) (now (a .operand)) (c .put-truths .last .1 .1 .1 .0) (c .before .before .before .index-table .result))
+    Executable (at (now (a .levels)) (suc (a .k))) (a .k) (now (a .kind)) (now (a .first)) (now (a .operand)) (c .put-truths .last .1 .1 .1 .0) (c .before .before .before .index-table .result))
 ready c =
     let s = c .before .before .before .before .before .before .before .before .before .before .before .before .before in
     record {

@@ -1,5 +1,4 @@
 -- `search::choices::jump` meets its contract: the bits by `advance`, their number by `next_after`.
--- Assumes nothing.
 use Prim.Native.Nat.{_-_, _≤_, suc, _^_, _/_}
 use mathlib.Core.Path.{refl, ap, sym, _∙_}
 use native.Mathlib.Omega.{arith}

@@ -1,5 +1,4 @@
 -- `search::choices::next_after` meets its contract: the sum has at most 25 bits, so the shift loses nothing.
--- Assumes nothing.
 use Prim.Native.Nat.{suc, _*_, _^_, _/_, _≤_, _<_}
 use native.Mathlib.Omega.{arith}
 use native.Mathlib.Nat.{div-mul-le-self, mod-eq-of-lt, suc-mul}

@@ -1,5 +1,4 @@
 -- `search::choices::two_to` meets its contract: a shift by at most 24 loses nothing.
--- Assumes nothing.
 use Prim.Native.Nat.{_^_, _<_}
 use native.Mathlib.Omega.{arith}
 use lib.Pow.{pow-lt}

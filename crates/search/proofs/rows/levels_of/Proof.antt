@@ -1,5 +1,4 @@
 -- `search::rows::levels_of` meets its contract: the cells below i have their levels.
--- Assumes nothing.
 use Prim.Native.Nat.{ℕ, _+_, _-_, _≤_, _<_}
 use mathlib.Core.Path.{_≡_, refl, ap, _∙_}
 use native.Mathlib.Omega.{arith}
@@ -7,7 +6,7 @@ use native.Mathlib.Numerals.{add-one}
 use lib.ListN.{length, length-set}
 use denote.Ref.{now}
 use Rattle.graph.specs.Columns.{at}
-use Rattle.search.specs.Rows.{Level}
+use Rattle.search.specs.inner.Rows.{Level}
 use Rattle.search.proofs.Putting.{climb, fill-each}
 use borrow.Author.Needs.{needs}
 use Rattle.search.proofs.rows.levels_of.Statement.{statement}

@@ -1,5 +1,4 @@
 -- `search::rows::put_left` meets its contract: the places before d say what is left of the row.
--- Assumes nothing.
 use Prim.Native.Nat.{ℕ, _+_, _-_, _≤_, _<_}
 use mathlib.Core.Path.{_≡_}
 use native.Mathlib.Omega.{arith}

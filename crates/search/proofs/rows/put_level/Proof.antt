@@ -1,12 +1,11 @@
 -- `search::rows::put_level` meets its contract: the dues of the edges below e are in their rows.
--- Assumes nothing.
 use Prim.Native.Nat.{_+_, _-_}
 use mathlib.Core.Path.{_≡_, ap, _∙_}
 use native.Mathlib.Omega.{arith}
 use lib.ListN.{length}
 use denote.Ref.{now}
 use Rattle.graph.specs.Columns.{at}
-use Rattle.gates.specs.Gates.{part}
+use Rattle.gates.specs.inner.Gates.{part}
 use Rattle.gates.proofs.Words.{part-none}
 use Rattle.search.proofs.Putting.{onward-size, onward-end, Rowing, rowing-start, rowing-part, rowing-room, rowing-few, rowing-turn}
 use borrow.Author.Needs.{needs}

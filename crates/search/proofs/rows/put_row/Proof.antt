@@ -1,5 +1,4 @@
 -- `search::rows::put_row` meets its contract: what is left of the dues, put from here on, makes the whole.
--- Assumes nothing.
 use Prim.Native.Nat.{_+_, _-_, _≤_, _<_, _/_}
 use mathlib.Core.Path.{_≡_, ap, _∙_}
 use native.Mathlib.Omega.{arith}
@@ -8,9 +7,9 @@ use mathlib.Core.List.{_∷_}
 use lib.ListN.{length}
 use denote.Ref.{now}
 use Rattle.graph.specs.Columns.{at}
-use Rattle.gates.specs.Gates.{part}
+use Rattle.gates.specs.inner.Gates.{part}
 use Rattle.gates.proofs.Words.{part-none, part-more}
-use Rattle.search.specs.Rows.{ofLevel}
+use Rattle.search.specs.inner.Rows.{ofLevel}
 use Rattle.search.proofs.Dues.{level-hit}
 use Rattle.search.proofs.Putting.{Onward, onward-size, onward-hit, onward-miss, onward-end}
 use borrow.Author.Needs.{needs}

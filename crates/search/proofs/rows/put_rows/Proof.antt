@@ -1,11 +1,10 @@
 -- `search::rows::put_rows` meets its contract: the dues of the levels below m are in their rows.
--- Assumes nothing.
 use Prim.Native.Nat.{_-_}
 use mathlib.Core.Path.{_≡_, refl}
 use native.Mathlib.Omega.{arith}
 use lib.ListN.{length, length-set}
 use Rattle.graph.specs.Columns.{at}
-use Rattle.graph.specs.Sort.{sorted}
+use Rattle.graph.specs.inner.Sort.{sorted}
 use Rattle.search.proofs.Putting.{Ranking, ranking-size, ranking-small, ranking-room, ranking-turn, ranking-rows, ranking-same}
 use borrow.Author.Needs.{needs}
 use Rattle.search.proofs.rows.put_rows.Statement.{statement}

@@ -1,9 +1,8 @@
 -- `simulate::checks::are_bits` meets its contract: the bytes are bits where those from i on are.
--- Assumes nothing.
 use Prim.Native.Nat.{_-_, _≤_}
 use mathlib.Core.Path.{_≡_, refl, sym, _∙_}
 use lib.ListN.{length, drop}
-use Rattle.simulate.specs.Step.{bits}
+use Rattle.simulate.specs.Step.{onlyBits}
 use Rattle.simulate.proofs.Asked.{bits-more, bits-stop, bits-end}
 use native.Mathlib.Omega.{arith}
 use borrow.Author.Needs.{needs}
@@ -11,7 +10,7 @@ use Rattle.simulate.proofs.checks.are_bits.Statement.{statement}
 use Rattle.simulate.proofs.checks.are_bits.Tie as tie
 
 abbrev Inv-loop : tie.InvT-loop
-Inv-loop vector i₀ i = (i ≤ length vector) × (bits vector ≡ bits (drop i vector))
+Inv-loop vector i₀ i = (i ≤ length vector) × (onlyBits vector ≡ onlyBits (drop i vector))
 
 abbrev μ-loop : tie.MeasureT-loop
 μ-loop vector i₀ i = length vector - i

@@ -1,11 +1,10 @@
 -- `simulate::checks::count_kind` meets its contract: the nodes of the kind below v are counted, and they are v at most.
--- Assumes nothing.
 use Prim.Native.Nat.{_-_, _≤_}
 use mathlib.Core.Path.{_≡_, refl, ap, _∙_}
 use mathlib.Core.Logic.{⊎-elim}
 use native.Mathlib.Numerals.{add-one}
 use Rattle.theory.specs.Clock.{gather}
-use Rattle.simulate.specs.Clock.{before}
+use Rattle.simulate.specs.Clock.{earlier}
 use Rattle.simulate.proofs.Lists.{before-hit, before-miss}
 use native.Mathlib.Omega.{arith}
 use borrow.Author.Needs.{needs}
@@ -13,7 +12,7 @@ use Rattle.simulate.proofs.checks.count_kind.Statement.{statement}
 use Rattle.simulate.proofs.checks.count_kind.Tie as tie
 
 abbrev Inv-loop : tie.InvT-loop
-Inv-loop k net nodes n₀ v₀ n v = (v ≤ nodes) × (n ≡ before net k v) × (n ≤ v)
+Inv-loop k net nodes n₀ v₀ n v = (v ≤ nodes) × (n ≡ earlier net k v) × (n ≤ v)
 
 abbrev μ-loop : tie.MeasureT-loop
 μ-loop k net nodes n₀ v₀ n v = nodes - v
@@ -22,7 +21,7 @@ cast-nodes : tie.Need-cast-nodes Inv-loop μ-loop
 cast-nodes c = search needs
 
 loop-holds : tie.Need-loop-holds Inv-loop μ-loop
-unfolding before gather
+unfolding earlier gather
 loop-holds c = (omega arith, refl, omega arith)
 
 element-copy-out-if1 : tie.Need-element-copy-out-if1 Inv-loop μ-loop
@@ -41,12 +40,12 @@ loop-again : tie.Need-loop-again Inv-loop μ-loop
 loop-again c =
     let a = c .before .before .before .before .args in
     let l = c .before .before .before .loop in
-    let s = ap (before (a .t1) (a .k)) (add-one (l .v)) in
+    let s = ap (earlier (a .t1) (a .k)) (add-one (l .v)) in
     ⊎-elim (λ w. (omega arith, omega (arith, w .1, l .inv .1, before-hit (a .t1) (a .k) (l .v) (w .0 .taken)), omega (arith, w .1)))
     (λ w. (omega arith, omega (arith, w .1, l .inv .1, before-miss (a .t1) (a .k) (l .v) (w .0 .left)), omega (arith, w .1))) (c .if1 .came)
 
 returns : tie.Need-returns Inv-loop μ-loop
-returns c = let a = c .before .before .args in let l = c .before .loop in l .inv .1 ∙ ap (before (a .t1) (a .k)) (let y : l .v ≡ a .t1 .nodes = omega arith in y)
+returns c = let a = c .before .before .args in let l = c .before .loop in l .inv .1 ∙ ap (earlier (a .t1) (a .k)) (let y : l .v ≡ a .t1 .nodes = omega arith in y)
 
 pub count-kind-spec : {M : Type 1} → statement M
 count-kind-spec =

@@ -1,9 +1,8 @@
 -- `simulate::checks::step_fits` meets its contract: the three tests in turn.
--- Assumes nothing.
 use mathlib.Core.Path.{sym, _∙_}
 use borrow.Author.Tests.{eq-eqb, ne-eqb, not-true, not-false}
 use Rattle.netlist.proofs.Fits.{head-fits}
-use Rattle.simulate.specs.Step.{bits, wordsFit}
+use Rattle.simulate.specs.Step.{onlyBits, wordsFit}
 use Rattle.simulate.proofs.Asked.{first-fails, second-fails, third-tells}
 use borrow.Author.Needs.{needs}
 use Rattle.simulate.proofs.checks.step_fits.Statement.{statement}
@@ -15,7 +14,7 @@ count-kind-requires c κs = head-fits _ _ _ _ (c .before .before .pre .0 .head) 
 returns : tie.Need-returns
 returns c =
     let a = c .before .before .before .before .args in
-    first-fails _ (bits (a .vector .now)) (wordsFit (a .net) (a .words .now) (a .net .edges)) (ne-eqb _ _ (λ q. c .if1 .taken (q ∙ sym (c .before .count-kind .ensures))))
+    first-fails _ (onlyBits (a .vector .now)) (wordsFit (a .net) (a .words .now) (a .net .edges)) (ne-eqb _ _ (λ q. c .if1 .taken (q ∙ sym (c .before .count-kind .ensures))))
 
 are-bits-requires : tie.Need-are-bits-requires
 are-bits-requires c κs = search needs

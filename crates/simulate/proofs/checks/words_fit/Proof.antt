@@ -1,5 +1,4 @@
 -- `simulate::checks::words_fit` meets its contract: the words below e fit.
--- Assumes nothing.
 use Prim.Native.Nat.{_-_, _≤_}
 use mathlib.Core.Path.{_≡_, refl, sym, ap, _∙_}
 use mathlib.Core.Bool.{true}

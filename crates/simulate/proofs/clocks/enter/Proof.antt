@@ -1,5 +1,4 @@
 -- `simulate::clocks::enter` meets its contract: first the inputs, then the registers.
--- Assumes nothing.
 use borrow.Author.Needs.{needs}
 use Rattle.simulate.proofs.Signals.{begun}
 use Rattle.simulate.proofs.clocks.enter.Statement.{statement}

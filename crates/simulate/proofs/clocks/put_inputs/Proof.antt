@@ -1,9 +1,8 @@
 -- `simulate::clocks::put_inputs` meets its contract: the inputs below v are put, and the cursor is at the next byte.
--- Assumes nothing.
 use Prim.Native.Nat.{_+_, _-_, _≤_}
 use mathlib.Core.Path.{_≡_, subst}
 use mathlib.Core.Logic.{⊎-elim}
-use Rattle.simulate.specs.Signals.{among, Entered}
+use Rattle.simulate.specs.inner.Signals.{among, Entered}
 use Rattle.simulate.proofs.Signals.{among-less, Entering, entering-start, entering-hit, entering-miss}
 use native.Mathlib.Omega.{arith}
 use borrow.Author.Needs.{needs}

@@ -1,12 +1,11 @@
 -- `simulate::clocks::put_outputs` meets its contract: the outputs below v are written, and the cursor is behind them.
--- Assumes nothing.
 use Prim.Native.Nat.{_+_, _-_, _≤_}
 use mathlib.Core.Path.{_≡_, ap, _∙_}
 use mathlib.Core.Logic.{⊎-elim}
 use lib.Seq.{sets}
 use lib.ListN.{getD}
 use Rattle.theory.specs.Clock.{gather}
-use Rattle.simulate.specs.Signals.{among}
+use Rattle.simulate.specs.inner.Signals.{among}
 use Rattle.simulate.proofs.Signals.{among-less, Putting, putting-start, putting-length, putting-hit, putting-miss}
 use native.Mathlib.Omega.{arith}
 use borrow.Author.Needs.{needs}

@@ -1,9 +1,8 @@
 -- `simulate::clocks::shift` meets its contract: the words below e are moved on.
--- Assumes nothing.
 use Prim.Native.Nat.{_-_, _^_, _<_, _≤_}
 use mathlib.Core.Path.{_≡_, sym, ap, _∙_, subst}
 use lib.ListN.{length, getD}
-use Rattle.simulate.specs.Signals.{movedOn}
+use Rattle.simulate.specs.inner.Signals.{shiftedTo}
 use Rattle.simulate.proofs.Signals.{moved-start, moved-length, moved-at, moved-more}
 use native.Mathlib.Omega.{arith}
 use borrow.Author.Needs.{needs}
@@ -11,7 +10,7 @@ use Rattle.simulate.proofs.clocks.shift.Statement.{statement}
 use Rattle.simulate.proofs.clocks.shift.Tie as tie
 
 abbrev Inv-loop : tie.InvT-loop
-Inv-loop from count edges sig words₀ e₀ words e = (e ≤ edges) × (words ≡ movedOn from count sig words₀ e)
+Inv-loop from count edges sig words₀ e₀ words e = (e ≤ edges) × (words ≡ shiftedTo from count sig words₀ e)
 
 abbrev μ-loop : tie.MeasureT-loop
 μ-loop from count edges sig words₀ e₀ words e = edges - e
@@ -81,7 +80,7 @@ same-length : tie.Need-same-length Inv-loop μ-loop
 same-length c = as-many (c .before)
 
 returns : tie.Need-returns Inv-loop μ-loop
-returns c = let a = c .before .before .before .before .before .before .args in let l = c .before .loop in l .inv .1 ∙ ap (movedOn (a .from .now) (a .count .now) (a .sig .now) (a .words .now)) (let y : l .e ≡ a .edges = omega arith in y)
+returns c = let a = c .before .before .before .before .before .before .args in let l = c .before .loop in l .inv .1 ∙ ap (shiftedTo (a .from .now) (a .count .now) (a .sig .now) (a .words .now)) (let y : l .e ≡ a .edges = omega arith in y)
 
 pub shift-spec : {M : Type 1} → statement M
 shift-spec =

@@ -1,5 +1,4 @@
 -- `simulate::clocks::shift_in` meets its contract: the word's own half stands below the value, so OR adds them.
--- Assumes nothing.
 use Prim.Native.Nat.{_+_, _-_, _*_, _/_, _<_, _^_}
 use mathlib.Core.Path.{_≡_, subst, ap, _∙_}
 use native.Mathlib.Nat.{add-comm}

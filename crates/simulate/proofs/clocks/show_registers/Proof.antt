@@ -1,9 +1,8 @@
 -- `simulate::clocks::show_registers` meets its contract: the edges below e are shown.
--- Assumes nothing.
 use Prim.Native.Nat.{_-_, _≤_}
 use mathlib.Core.Path.{_≡_, refl, _∙_, subst}
 use lib.ListN.{length, length-set}
-use Rattle.simulate.specs.Signals.{Shown}
+use Rattle.simulate.specs.inner.Signals.{RegistersShown}
 use Rattle.simulate.proofs.Signals.{shown-start, shown-more}
 use native.Mathlib.Omega.{arith}
 use borrow.Author.Needs.{needs}
@@ -11,7 +10,7 @@ use Rattle.simulate.proofs.clocks.show_registers.Statement.{statement}
 use Rattle.simulate.proofs.clocks.show_registers.Tie as tie
 
 abbrev Inv-loop : tie.InvT-loop
-Inv-loop words edges sig₀ e₀ sig e = (e ≤ edges) × (length sig ≡ length sig₀) × Shown words e sig₀ sig
+Inv-loop words edges sig₀ e₀ sig e = (e ≤ edges) × (length sig ≡ length sig₀) × RegistersShown words e sig₀ sig
 
 abbrev μ-loop : tie.MeasureT-loop
 μ-loop words edges sig₀ e₀ sig e = edges - e
@@ -47,7 +46,7 @@ same-length : tie.Need-same-length Inv-loop μ-loop
 same-length c = c .before .loop .inv .1
 
 returns : tie.Need-returns Inv-loop μ-loop
-returns c = let l = c .before .loop in let a = c .before .before .args in subst (λ n. Shown (a .words .now) n (a .sig .now) (l .sig)) (let y : l .e ≡ c .before .before .args .edges = omega arith in y) (l .inv .2)
+returns c = let l = c .before .loop in let a = c .before .before .args in subst (λ n. RegistersShown (a .words .now) n (a .sig .now) (l .sig)) (let y : l .e ≡ c .before .before .args .edges = omega arith in y) (l .inv .2)
 
 pub show-registers-spec : {M : Type 1} → statement M
 show-registers-spec =

@@ -1,5 +1,4 @@
 -- `simulate::plan::gates_of` meets its contract: of the first i places of the order, the nodes that are no inputs are in the list.
--- Assumes nothing.
 use Prim.Native.Nat.{ℕ, _-_, _≤_, _<_}
 use mathlib.Core.Path.{_≡_, refl, subst, ap, _∙_}
 use mathlib.Core.Logic.{⊎-elim}
@@ -8,7 +7,7 @@ use native.Mathlib.Omega.{arith}
 use denote.Ref.{now}
 use lib.ListN.{length, length-set}
 use borrow.Author.Needs.{needs}
-use Rattle.simulate.specs.Parts.{Kept}
+use Rattle.simulate.specs.inner.Parts.{Kept}
 use Rattle.simulate.proofs.Kept.{kept-none, kept-hit, kept-miss}
 use Rattle.simulate.proofs.plan.gates_of.Statement.{statement}
 use Rattle.simulate.proofs.plan.gates_of.Tie as tie

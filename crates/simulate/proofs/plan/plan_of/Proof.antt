@@ -1,5 +1,4 @@
 -- `simulate::plan::plan_of` meets its contract: the nodes in order, the edges by the node that they enter, signals and truth words make a plan (`planned`).
--- Assumes nothing.
 use native.Mathlib.Omega.{arith}
 use borrow.Author.Needs.{needs}
 use Rattle.graph.specs.Columns.{at}

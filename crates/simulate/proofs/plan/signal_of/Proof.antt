@@ -1,5 +1,4 @@
 -- `simulate::plan::signal_of` meets its contract.
--- Assumes nothing.
 use Prim.Native.Nat.{_+_}
 use mathlib.Core.Path.{ap, sym}
 use mathlib.Core.Bool.{cond}

@@ -1,5 +1,4 @@
 -- `simulate::plan::signals_of` meets its contract: the signals below k are filled.
--- Assumes nothing.
 use Prim.Native.Nat.{ℕ, _-_, _≤_, _<_}
 use mathlib.Core.Path.{_≡_, refl, _∙_}
 use native.Mathlib.Omega.{arith}
@@ -8,7 +7,7 @@ use lib.ListN.{length, length-set}
 use borrow.Author.Needs.{needs}
 use Rattle.graph.specs.Columns.{at}
 use Rattle.graph.proofs.Fills.{fill-more}
-use Rattle.simulate.specs.Plan.{signal}
+use Rattle.simulate.specs.inner.Plan.{signal}
 use Rattle.simulate.proofs.plan.signals_of.Statement.{statement}
 use Rattle.simulate.proofs.plan.signals_of.Tie as tie
 

@@ -1,13 +1,12 @@
 -- `simulate::running::clocks_of` meets its contract: after t clocks their outputs are put out, and the words are those that they left.
--- Assumes nothing.
 use Prim.Native.Nat.{_+_, _-_, _≤_}
 use mathlib.Core.Path.{_≡_, refl, ap, sym, subst, _∙_}
 use lib.ListN.{length}
 use lib.Seq.{length-sets}
-use Rattle.gates.specs.Gates.{AllBits, evaluated}
+use Rattle.gates.specs.inner.Gates.{AllBits, evaluated}
 use Rattle.gates.proofs.Row.{evaluated-bits}
 use Rattle.netlist.proofs.Run.{fit-rows}
-use Rattle.simulate.specs.Clock.{before, inputs, outputs}
+use Rattle.simulate.specs.Clock.{earlier, inputs, outputs}
 use Rattle.simulate.proofs.Evaluated.{Rows, plan-evaluable, plan-truths}
 use Rattle.simulate.proofs.Ran.{net-movable, bits-none, Running, running-start, vector-in, outputs-in, room-in, begun-bits, running-turn, running-end}
 use native.Mathlib.Omega.{arith}
@@ -77,7 +76,7 @@ output-room : (turn : tie.In-loop Inv-loop μ-loop) → turn .before .loop .give
 output-room turn = outputs-in _ _ _ _ _ (start turn .pre) (turn .loop-test .taken) (turn .before .loop .inv)
 
 enter-requires : tie.Need-enter-requires Inv-loop μ-loop
-unfolding before
+unfolding earlier
 enter-requires c κs =
     let turn = c .before .before .before .before .before in
     let s = start turn in
@@ -134,7 +133,7 @@ valued-size : (c : tie.After-evaluate Inv-loop μ-loop) → length (c .evaluate 
 valued-size c = c .evaluate .kept .1 .1 .1 .1 .1 .1 .1 .0 ∙ begun-size (entered c)
 
 leave-requires : tie.Need-leave-requires Inv-loop μ-loop
-unfolding before
+unfolding earlier
 leave-requires c κs =
     let v = c .before .before .before .before .before .before .before .before .before .before .before in
     let e = entered v in

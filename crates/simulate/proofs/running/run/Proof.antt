@@ -1,10 +1,9 @@
 -- `simulate::running::run` meets its contract: the text is read, then 13, then 12, then one clock per vector.
--- Assumes nothing.
 use Prim.Native.Nat.{_<_}
 use mathlib.Core.Path.{sym, _∙_}
 use borrow.Author.Tests.{not-true, not-false}
 use Rattle.netlist.proofs.Fits.{head-fits}
-use Rattle.simulate.specs.Ran.{Steppable}
+use Rattle.simulate.specs.inner.Ran.{Steppable}
 use Rattle.simulate.proofs.Ran.{reads-steppable}
 use Rattle.simulate.proofs.Answered.{reads-done, runs-stop, run-divisors, runs-size, runs-byte, runs-short, run-room, run-runnable, runs-done}
 use native.Mathlib.Omega.{arith}

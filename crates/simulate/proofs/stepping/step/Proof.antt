@@ -1,10 +1,9 @@
 -- `simulate::stepping::step` meets its contract: the rules of the record, then 13, then 12, then one clock.
--- Assumes nothing.
 use mathlib.Core.Path.{_≡_, sym, _∙_}
 use lib.ListN.{length}
 use borrow.Author.Tests.{not-true, not-false}
 use Rattle.netlist.proofs.Fits.{head-fits}
-use Rattle.simulate.specs.Ran.{Steppable}
+use Rattle.simulate.specs.inner.Ran.{Steppable}
 use Rattle.simulate.proofs.Ran.{reads-steppable}
 use Rattle.simulate.proofs.Answered.{reads-done, steps-stop, steps-asked, steps-short, step-runnable, steps-done}
 use native.Mathlib.Omega.{arith}

@@ -1,6 +1,5 @@
 -- `simulate::stepping::step_in_place` meets its contract: a walk of its MIR, by hand. The borrow of the machine is opened, the record is copied and passed to `step` with the two slices at their own lifetimes, the record that comes back is stored, and the borrow is closed at it.
 -- All that the proof knows of `step` is that it meets its contract.
--- Assumes nothing.
 use mathlib.Core.Path.{_≡_, refl, ap}
 use Prim.Native.Nat.{ℕ}
 use mathlib.Core.List.{[], _∷_, List}

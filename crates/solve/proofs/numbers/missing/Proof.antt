@@ -1,5 +1,4 @@
 -- `solve::numbers::missing` meets its contract: no operand before place j is such a cell.
--- Assumes nothing.
 use Prim.Native.Nat.{ℕ, _+_, _-_, _≤_, _<_}
 use mathlib.Core.Path.{_≡_, ap}
 use mathlib.Core.Logic.{⊎-elim}

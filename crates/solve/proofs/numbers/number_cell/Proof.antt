@@ -1,13 +1,12 @@
 -- `solve::numbers::number_cell` meets its contract: the numbers given are right, and the stack's cells wait for theirs. A push lowers the top of the stack, which is
 -- an earlier cell then, and a pop gives a number: that is the measure.
--- Assumes nothing.
 use Prim.Native.Nat.{_+_, _*_, _-_, _≤_, _<_}
 use mathlib.Core.Path.{_≡_, refl, ap, sym, _∙_}
 use lib.ListN.{length, set, length-set}
 use lib.Seq.{getD-set-same}
 use denote.Ref.{now}
 use Rattle.graph.specs.Columns.{at}
-use Rattle.solve.specs.Numbers.{Extended, Waiting}
+use Rattle.solve.specs.inner.Numbers.{Extended, Waiting}
 use Rattle.solve.proofs.Numbering.{numbered-room, numbered-ready, extended-same, extended-one, waiting-one, waiting-more, waiting-less}
 use native.Mathlib.Omega.{arith}
 use borrow.Author.Needs.{needs}

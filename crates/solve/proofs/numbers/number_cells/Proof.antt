@@ -1,11 +1,10 @@
 -- `solve::numbers::number_cells` meets its contract: at level m the cells of lower levels have their numbers, and no others.
--- Assumes nothing.
 use Prim.Native.Nat.{ℕ, _+_, _-_, _≤_, _<_}
 use mathlib.Core.Path.{_≡_, refl, sym, _∙_}
 use lib.ListN.{length, length-set, length-replicate}
 use denote.Ref.{now}
 use Rattle.graph.specs.Columns.{at}
-use Rattle.solve.specs.Numbers.{Layered, Numbered, Begun}
+use Rattle.solve.specs.inner.Numbers.{Layered, Numbered, LevelsBegun}
 use Rattle.solve.proofs.Numbering.{layered, numbered-none, begun-none, begun-more, begun-here, level-turn, ranked}
 use native.Mathlib.Omega.{arith}
 use borrow.Author.Needs.{needs}
@@ -14,7 +13,7 @@ use Rattle.solve.proofs.numbers.number_cells.Tie as tie
 
 abbrev Inv-loop : tie.InvT-loop
 Inv-loop first operand cells k due total id₀ code₀ levels₀ span stack₀ n₀ m₀ id code levels stack n m =
-    (m ≤ k + 1) × Numbered cells m n first operand span id code × Begun m n span code levels × ((q : ℕ) → q < n → at span (at code q) < m)
+    (m ≤ k + 1) × Numbered cells m n first operand span id code × LevelsBegun m n span code levels × ((q : ℕ) → q < n → at span (at code q) < m)
     × (length id ≡ length id₀) × (length code ≡ length code₀) × (length levels ≡ length levels₀) × (length stack ≡ 12288)
 
 abbrev μ-loop : tie.MeasureT-loop

@@ -1,9 +1,8 @@
 -- `solve::numbers::number_due` meets its contract: each turn extends the numbers.
--- Assumes nothing.
 use Prim.Native.Nat.{_-_}
 use mathlib.Core.Path.{_≡_, refl, _∙_}
 use lib.ListN.{length}
-use Rattle.solve.specs.Numbers.{Extended}
+use Rattle.solve.specs.inner.Numbers.{Extended}
 use Rattle.solve.proofs.Numbering.{extended-same, extended-more}
 use native.Mathlib.Omega.{arith}
 use borrow.Author.Needs.{needs}

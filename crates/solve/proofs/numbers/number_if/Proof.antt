@@ -1,10 +1,9 @@
 -- `solve::numbers::number_if` meets its contract.
--- Assumes nothing.
 use mathlib.Core.Path.{subst, sym}
 use mathlib.Core.Logic.{⊎-elim}
 use borrow.Author.Tests.{eqb-true, eqb-false}
 use denote.Ref.{now}
-use Rattle.solve.specs.Numbers.{Numbered, Extended}
+use Rattle.solve.specs.inner.Numbers.{Numbered, Extended}
 use Rattle.solve.proofs.Numbering.{numbered-given, extended-same}
 use borrow.Author.Needs.{needs}
 use Rattle.solve.proofs.numbers.number_if.Statement.{statement}

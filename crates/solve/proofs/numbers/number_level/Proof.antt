@@ -1,5 +1,4 @@
 -- `solve::numbers::number_level` meets its contract: it extends the numbers twice.
--- Assumes nothing.
 use native.Mathlib.Omega.{arith}
 use Rattle.solve.proofs.Numbering.{extended-more}
 use borrow.Author.Needs.{needs}

@@ -1,11 +1,10 @@
 -- `solve::numbers::number_rest` meets its contract: each turn extends the numbers, and the cells of the level that were passed have theirs.
--- Assumes nothing.
 use Prim.Native.Nat.{ℕ, _-_, _≤_, _<_}
 use mathlib.Core.Path.{_≡_, refl, _∙_}
 use lib.ListN.{length}
 use borrow.Author.Count.{below-more}
 use Rattle.graph.specs.Columns.{at}
-use Rattle.solve.specs.Numbers.{Extended}
+use Rattle.solve.specs.inner.Numbers.{Extended}
 use Rattle.solve.proofs.Numbering.{extended-same, extended-more, extended-number}
 use native.Mathlib.Omega.{arith}
 use borrow.Author.Needs.{needs}

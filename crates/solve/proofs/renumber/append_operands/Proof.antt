@@ -1,5 +1,4 @@
 -- `solve::renumber::append_operands` meets its contract: the operands before place j are put.
--- Assumes nothing.
 use Prim.Native.Nat.{_+_, _-_, _≤_}
 use mathlib.Core.Path.{_≡_, refl, subst, _∙_}
 use native.Mathlib.Omega.{arith}
@@ -7,13 +6,13 @@ use borrow.Author.Needs.{needs}
 use lib.ListN.{length, length-set}
 use denote.Ref.{now}
 use Rattle.solve.proofs.Renumbering.{appended-none, appended-more}
-use Rattle.solve.specs.Numbers.{Appended}
+use Rattle.solve.specs.inner.Numbers.{Copied}
 use Rattle.solve.proofs.renumber.append_operands.Statement.{statement}
 use Rattle.solve.proofs.renumber.append_operands.Tie as tie
 
 abbrev Inv-loop : tie.InvT-loop
 Inv-loop operand lo hi id start operands₀ n₀ j₀ operands n j =
-    (lo ≤ j) × (j ≤ hi) × (n + lo ≡ start + j) × (length operands ≡ length operands₀) × Appended operand id lo j start operands₀ operands
+    (lo ≤ j) × (j ≤ hi) × (n + lo ≡ start + j) × (length operands ≡ length operands₀) × Copied operand id lo j start operands₀ operands
 
 abbrev μ-loop : tie.MeasureT-loop
 μ-loop operand lo hi id start operands₀ n₀ j₀ operands n j = hi - j
@@ -67,7 +66,7 @@ returns c =
     let s = c .before .before .before .before .before in
     let l = c .before .loop in
     let z : l .j ≡ s .args .hi = omega arith in
-    (omega arith, subst (λ h. Appended (now (s .args .operand)) (now (s .args .id)) (s .args .lo) h (s .args .start) (now (s .args .operands)) (l .operands)) z (l .inv .4))
+    (omega arith, subst (λ h. Copied (now (s .args .operand)) (now (s .args .id)) (s .args .lo) h (s .args .start) (now (s .args .operands)) (l .operands)) z (l .inv .4))
 
 pub append-operands-spec : {M : Type 1} → statement M
 append-operands-spec =

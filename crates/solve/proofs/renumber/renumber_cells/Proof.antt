@@ -1,5 +1,4 @@
 -- `solve::renumber::renumber_cells` meets its contract: the first q cells are copied.
--- Assumes nothing.
 use Prim.Native.Nat.{ℕ, suc, _+_, _-_, _≤_, _<_}
 use mathlib.Core.Path.{_≡_, refl, sym, subst, ap, _∙_}
 use native.Mathlib.Numerals.{add-one}
@@ -7,7 +6,7 @@ use lib.ListN.{length, length-set}
 use lib.Seq.{getD-set-same}
 use denote.Ref.{now}
 use Rattle.graph.specs.Columns.{at}
-use Rattle.solve.specs.Numbers.{ins, Renumbered}
+use Rattle.solve.specs.inner.Numbers.{ins, Renumbered}
 use Rattle.solve.proofs.Renumbering.{renumbered-none, renumbered-room, renumbered-turn, append-ready}
 use native.Mathlib.Omega.{arith}
 use borrow.Author.Needs.{needs}

@@ -1,5 +1,4 @@
 -- `solve::renumber::renumber_dues` meets its contract: the dues before x are done, the others as they were.
--- Assumes nothing.
 use Prim.Native.Nat.{ℕ, _-_, _/_, _≤_, _<_}
 use mathlib.Core.Path.{_≡_}
 use native.Mathlib.Omega.{arith}
@@ -8,7 +7,7 @@ use lib.ListN.{length}
 use denote.Ref.{now}
 use Rattle.solve.proofs.Renumbering.{redue-more}
 use Rattle.graph.specs.Columns.{at}
-use Rattle.solve.specs.Numbers.{Redue}
+use Rattle.solve.specs.inner.Numbers.{Redue}
 use Rattle.solve.proofs.renumber.renumber_dues.Statement.{statement}
 use Rattle.solve.proofs.renumber.renumber_dues.Tie as tie
 

@@ -1,5 +1,4 @@
 -- `solve::renumber::renumbered` meets its contract, by the two cases of `moved`.
--- Assumes nothing.
 use mathlib.Core.Path.{sym}
 use native.Mathlib.Omega.{arith}
 use denote.Ref.{now}

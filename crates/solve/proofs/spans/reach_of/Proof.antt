@@ -1,5 +1,4 @@
 -- `solve::spans::reach_of` meets its contract, by the two cases of `reach`.
--- Assumes nothing.
 use mathlib.Core.Path.{sym, _∙_}
 use native.Mathlib.Numerals.{add-one}
 use Rattle.solve.proofs.Spanning.{reach-bit, reach-cell}

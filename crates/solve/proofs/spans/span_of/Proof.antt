@@ -1,19 +1,18 @@
 -- `solve::spans::span_of` meets its contract: `most` is the most of the operands before j.
--- Assumes nothing.
 use Prim.Native.Nat.{ℕ, _-_, _≤_, _<_}
 use mathlib.Core.Logic.{⊎-elim}
 use native.Mathlib.Omega.{arith}
 use borrow.Author.Count.{below-more}
 use Rattle.graph.specs.Columns.{at}
-use Rattle.solve.specs.Parts.{reach}
+use Rattle.solve.specs.inner.Parts.{depth}
 use borrow.Author.Needs.{needs}
 use Rattle.solve.proofs.spans.span_of.Statement.{statement}
 use Rattle.solve.proofs.spans.span_of.Tie as tie
 
 abbrev Inv-loop : tie.InvT-loop
 Inv-loop operand start end span most₀ j₀ most j =
-    (start ≤ j) × ((i : ℕ) → i < j → start ≤ i → reach span (at operand i) ≤ most)
-    × ((b : ℕ) → ((i : ℕ) → start ≤ i → i < end → reach span (at operand i) ≤ b) → most ≤ b)
+    (start ≤ j) × ((i : ℕ) → i < j → start ≤ i → depth span (at operand i) ≤ most)
+    × ((b : ℕ) → ((i : ℕ) → start ≤ i → i < end → depth span (at operand i) ≤ b) → most ≤ b)
 
 abbrev μ-loop : tie.MeasureT-loop
 μ-loop operand start end span most₀ j₀ most j = end - j

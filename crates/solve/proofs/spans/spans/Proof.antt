@@ -1,11 +1,10 @@
 -- `solve::spans::spans` meets its contract: the cells before i have their spans, and `spans-more` is a turn.
--- Assumes nothing.
 use Prim.Native.Nat.{ℕ, _+_, _-_, _≤_}
 use mathlib.Core.Path.{_≡_, sym, subst, _∙_}
 use native.Mathlib.Omega.{arith}
 use lib.ListN.{length, length-set, length-replicate}
 use denote.Ref.{now}
-use Rattle.solve.specs.Parts.{Spans}
+use Rattle.solve.specs.inner.Parts.{Spans}
 use Rattle.solve.proofs.Spanning.{spans-none, spans-read, spans-more}
 use borrow.Author.Needs.{needs}
 use Rattle.solve.proofs.spans.spans.Statement.{statement}

@@ -1,5 +1,4 @@
 -- `starts::ring::advance` meets its contract: the cells below place k are a row further.
--- Assumes nothing.
 use Prim.Native.Nat.{_+_, _-_, _%_, _≤_}
 use mathlib.Core.Path.{_≡_, refl, ap, _∙_}
 use native.Mathlib.Omega.{arith}
@@ -7,7 +6,7 @@ use denote.Ref.{now}
 use lib.ListN.{length, length-set}
 use borrow.Author.Needs.{needs}
 use Rattle.graph.specs.Columns.{at}
-use Rattle.moves.specs.Moved.{Filled}
+use Rattle.moves.specs.inner.Columns.{Filled}
 use Rattle.moves.proofs.Fills.{filled-none, filled-more}
 use Rattle.starts.proofs.ring.advance.Statement.{statement}
 use Rattle.starts.proofs.ring.advance.Tie as tie

@@ -1,5 +1,4 @@
 -- `starts::ring::clocks_asked` meets its contract: no node below v is asked for later.
--- Assumes nothing.
 use Prim.Native.Nat.{ℕ, _+_, _-_, _≤_, _<_}
 use mathlib.Core.Logic.{⊎-elim}
 use native.Mathlib.Omega.{arith}

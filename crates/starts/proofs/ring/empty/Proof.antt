@@ -1,5 +1,4 @@
 -- `starts::ring::empty` meets its contract.
--- Assumes nothing.
 use mathlib.Core.Path.{refl}
 use borrow.Author.Needs.{needs}
 use Rattle.starts.proofs.Cells.{empty-is}

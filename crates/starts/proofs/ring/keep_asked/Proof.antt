@@ -1,5 +1,4 @@
 -- `starts::ring::keep_asked` meets its contract: of the first i members those are kept that are asked for.
--- Assumes nothing.
 use Prim.Native.Nat.{_+_, _-_, _≤_, _<_}
 use mathlib.Core.Path.{_≡_, sym, subst}
 use mathlib.Core.Logic.{⊎-elim}
@@ -8,13 +7,13 @@ use denote.Ref.{now}
 use lib.ListN.{length}
 use borrow.Author.Needs.{needs}
 use Rattle.graph.specs.Columns.{at}
-use Rattle.starts.specs.Ring.{Asked, Kept}
+use Rattle.starts.specs.inner.Ring.{AskedAt, Kept}
 use Rattle.starts.proofs.Kept.{Keeping, keeping-none, keeping-like, keeping-hit, keeping-miss}
 use Rattle.starts.proofs.ring.keep_asked.Statement.{statement}
 use Rattle.starts.proofs.ring.keep_asked.Tie as tie
 
 abbrev Inv-loop : tie.InvT-loop
-Inv-loop lab s list₀ n kept₀ i₀ list kept i = (i ≤ n) × Keeping (Asked lab s) list₀ i list kept
+Inv-loop lab s list₀ n kept₀ i₀ list kept i = (i ≤ n) × Keeping (AskedAt lab s) list₀ i list kept
 
 abbrev μ-loop : tie.MeasureT-loop
 μ-loop lab s list₀ n kept₀ i₀ list kept i = n - i
@@ -26,7 +25,7 @@ here c =
     subst (λ v. v < length (now (s .args .lab))) (sym (l .inv .1 .rest (l .i) (omega arith))) (s .pre .2 (l .i) (c .loop-test .taken))
 
 loop-holds : tie.Need-loop-holds Inv-loop μ-loop
-loop-holds c = (omega arith, keeping-none (Asked (now (c .args .lab)) (c .args .s)) (now (c .args .list)))
+loop-holds c = (omega arith, keeping-none (AskedAt (now (c .args .lab)) (c .args .s)) (now (c .args .list)))
 
 mul-v : tie.Need-mul-v Inv-loop μ-loop
 mul-v c = search needs
@@ -68,7 +67,7 @@ loop-again : tie.Need-loop-again Inv-loop μ-loop
 loop-again c =
     let a = c .before .before .before .before .before .args in
     let l = c .before .before .before .before .loop in
-    let P = Asked (now (a .lab)) (a .s) in (
+    let P = AskedAt (now (a .lab)) (a .s) in (
       omega arith,
       ⊎-elim (λ w. keeping-like P (now (a .list)) (l .i + 1) (w .1) (w .2) (keeping-hit P (now (a .list)) (l .i) (l .list) (l .kept) (l .inv .1) (omega (arith, w .0 .taken)) (omega (arith, l .inv .1 .size))))
           (λ w. keeping-like P (now (a .list)) (l .i + 1) (w .1) (w .2) (keeping-miss P (now (a .list)) (l .i) (l .list) (l .kept) (l .inv .1) (λ h. omega (arith, w .0 .left)))) (c .if1 .came),
@@ -81,7 +80,7 @@ returns : tie.Need-returns Inv-loop μ-loop
 returns c =
     let a = c .before .before .args in
     let l = c .before .loop in
-    subst (λ i. Kept (Asked (now (a .lab)) (a .s)) (now (a .list)) i (l .list) (l .kept)) (let z : l .i ≡ a .n = omega arith in z) (l .inv .1 .kept)
+    subst (λ i. Kept (AskedAt (now (a .lab)) (a .s)) (now (a .list)) i (l .list) (l .kept)) (let z : l .i ≡ a .n = omega arith in z) (l .inv .1 .kept)
 
 pub keep-asked-spec : {M : Type 1} → statement M
 keep-asked-spec =

@@ -1,5 +1,4 @@
 -- `starts::ring::place` meets its contract: the edges that enter the first i nodes have their cells.
--- Assumes nothing.
 use Prim.Native.Nat.{suc, _+_, _-_, _≤_, _<_}
 use mathlib.Core.Path.{_≡_, refl, sym, subst, _∙_}
 use native.Mathlib.Omega.{arith}
@@ -8,7 +7,7 @@ use denote.Ref.{now}
 use lib.ListN.{length}
 use borrow.Author.Needs.{needs}
 use Rattle.graph.specs.Columns.{at}
-use Rattle.starts.specs.Ring.{CellsOf, Cellable}
+use Rattle.starts.specs.inner.Ring.{CellsOf, Cellable}
 use Rattle.starts.proofs.Cells.{node-more}
 use Rattle.starts.proofs.ring.place.Statement.{statement}
 use Rattle.starts.proofs.ring.place.Tie as tie

@@ -1,5 +1,4 @@
 -- `starts::ring::place_node` meets its contract: the places below k are done.
--- Assumes nothing.
 use Prim.Native.Nat.{_-_, _≤_, _<_}
 use mathlib.Core.Path.{_≡_, refl, _∙_}
 use native.Mathlib.Omega.{arith}
@@ -7,7 +6,7 @@ use denote.Ref.{now}
 use lib.ListN.{length, length-set}
 use borrow.Author.Needs.{needs}
 use Rattle.graph.specs.Columns.{at}
-use Rattle.starts.specs.Ring.{Puts, Readable}
+use Rattle.starts.specs.inner.Ring.{Puts, EdgeRows}
 use Rattle.starts.proofs.Cells.{cell-in, puts-more, puts-end}
 use Rattle.starts.proofs.ring.place_node.Statement.{statement}
 use Rattle.starts.proofs.ring.place_node.Tie as tie
@@ -20,7 +19,7 @@ abbrev μ-loop : tie.MeasureT-loop
 
 edge : (c : tie.In-loop Inv-loop μ-loop)
     → let s = c .before .before .before .before .before .before .before in
-    Readable (now (s .args .from)) (now (s .args .count)) (now (s .args .start)) (at (now (s .args .ins)) (c .before .loop .k))
+    EdgeRows (now (s .args .from)) (now (s .args .count)) (now (s .args .start)) (at (now (s .args .ins)) (c .before .loop .k))
 edge c = c .before .before .before .before .before .before .before .pre .edges (c .before .loop .k) (c .before .loop .inv .0) (c .loop-test .taken)
 
 room : (c : tie.In-loop Inv-loop μ-loop) → c .before .loop .k < length (c .before .loop .cells)

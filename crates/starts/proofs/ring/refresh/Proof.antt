@@ -1,5 +1,4 @@
 -- `starts::ring::refresh` meets its contract.
--- Assumes nothing.
 use mathlib.Core.Path.{refl}
 use native.Mathlib.Omega.{arith}
 use mathlib.Core.Logic.{inl, inr}

@@ -1,5 +1,4 @@
 -- `starts::ring::ring_of` meets its contract: before clock s the ring holds what is needed of the clocks before it.
--- Assumes nothing.
 use Prim.Native.Nat.{_-_}
 use mathlib.Core.Path.{_≡_, refl, sym}
 use native.Mathlib.Omega.{arith}

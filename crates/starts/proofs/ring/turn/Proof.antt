@@ -1,5 +1,4 @@
 -- `starts::ring::turn` meets its contract.
--- Assumes nothing.
 use Prim.Native.Nat.{_+_, _-_, _%_, _≤_}
 use mathlib.Core.Path.{_≡_, ap, _∙_}
 use native.Mathlib.Omega.{arith}

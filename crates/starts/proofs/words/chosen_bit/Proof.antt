@@ -1,5 +1,4 @@
 -- `starts::words::chosen_bit` meets its contract: value x stands at place k − 1 − x.
--- Assumes nothing.
 use Prim.Native.Nat.{suc, _-_, _^_, _/_, _%_}
 use mathlib.Core.Path.{_≡_, ap}
 use native.Mathlib.Omega.{arith}

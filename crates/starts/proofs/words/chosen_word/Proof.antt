@@ -1,5 +1,4 @@
 -- `starts::words::chosen_word` meets its contract: the word holds the values below t.
--- Assumes nothing.
 use Prim.Native.Nat.{_+_, _*_, _-_, _^_, _≤_, _<_}
 use mathlib.Core.Path.{_≡_, sym, subst, ap, ap₂, _∙_}
 use native.Mathlib.Omega.{arith}

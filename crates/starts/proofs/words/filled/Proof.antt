@@ -1,5 +1,4 @@
 -- `starts::words::filled` meets its contract: the word has the start values below t.
--- Assumes nothing.
 use Prim.Native.Nat.{ℕ, _+_, _*_, _-_, _^_, _≤_, _<_}
 use mathlib.Core.Path.{_≡_, sym, subst, ap, ap₂, _∙_}
 use native.Mathlib.Omega.{arith}
@@ -8,7 +7,7 @@ use borrow.Author.Needs.{needs}
 use Rattle.graph.specs.Columns.{at}
 use Rattle.moves.specs.Moved.{wordOf}
 use Rattle.moves.proofs.Labels.{sum-more}
-use Rattle.starts.specs.Starts.{shownCell}
+use Rattle.starts.specs.inner.Starts.{shownCell}
 use Rattle.starts.proofs.Cells.{cell-in}
 use Rattle.starts.proofs.Found.{put-short}
 use Rattle.starts.proofs.words.filled.Statement.{statement}

@@ -1,5 +1,4 @@
 -- `starts::words::moved` meets its contract.
--- Assumes nothing.
 use mathlib.Core.Path.{_≡_, _∙_}
 use lib.ListN.{length}
 use borrow.Author.Needs.{needs}

@@ -1,5 +1,4 @@
 -- `starts::words::put_bit` meets its contract: a shift of a bit by at most 31 loses nothing.
--- Assumes nothing.
 use Prim.Native.Nat.{_+_, _*_, _^_, _%_}
 use mathlib.Core.Path.{_≡_, ap}
 use native.Mathlib.Omega.{arith}

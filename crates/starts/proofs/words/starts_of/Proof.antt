@@ -1,5 +1,4 @@
 -- `starts::words::starts_of` meets its contract: the edges below e have their new start values.
--- Assumes nothing.
 use Prim.Native.Nat.{_-_, _≤_, _<_}
 use mathlib.Core.Path.{_≡_, refl, subst, _∙_}
 use native.Mathlib.Omega.{arith}
@@ -7,10 +6,10 @@ use denote.Ref.{now}
 use lib.ListN.{length, length-set}
 use borrow.Author.Needs.{needs}
 use Rattle.graph.specs.Columns.{at}
-use Rattle.moves.specs.Moved.{Filled, none}
+use Rattle.moves.specs.inner.Columns.{Filled, none}
 use Rattle.moves.proofs.Labels.{to-node, low-nodes, low-edges}
 use Rattle.moves.proofs.Fills.{filled-zeros, filled-more}
-use Rattle.starts.specs.Starts.{startAt, startsAt}
+use Rattle.starts.specs.inner.Starts.{startAt, startsAt}
 use Rattle.starts.proofs.Found.{base-rising, chosen-found, fillable, shown-found}
 use Rattle.starts.proofs.words.starts_of.Statement.{statement}
 use Rattle.starts.proofs.words.starts_of.Tie as tie

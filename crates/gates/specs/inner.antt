@@ -1,0 +1,2 @@
+-- A gate's value from one word.
+pub mod Gates

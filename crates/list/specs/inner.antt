@@ -1,0 +1,2 @@
+-- Inside: the same, into a buffer that is lent.
+pub mod Lists

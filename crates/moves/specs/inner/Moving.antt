@@ -1,0 +1,26 @@
+-- What is known of a netlist and the labels of its least retiming, once neither 9 nor 10 is said.
+use mathlib.Core.Path.{_≡_}
+use mathlib.Core.List.{List}
+use Prim.Native.Nat.{ℕ, _<_, _≤_}
+use lib.ListN.{length}
+use Rattle.theory.specs.Gate.{gate}
+use Rattle.theory.specs.Retimer.{Sound}
+use Rattle.graph.specs.Columns.{at}
+use Rattle.netlist.specs.declared.Netlist.{Netlist}
+use Rattle.netlist.specs.Net.{graphOf, regsOf}
+use Rattle.simulate.specs.inner.Ran.{Steppable}
+use Rattle.lags.specs.inner.Lags.{Sure}
+use Rattle.moves.specs.inner.Labels.{Labelled, Counts, Bases}
+
+pub record Moving (net : Netlist) (lab counts base : List ℕ) (k : ℕ) : Type 0 where
+  pub steppable : Steppable net
+  pub sure : Sure net
+  pub sound : Sound gate (graphOf net) (regsOf net)
+  pub labelled : Labelled net lab
+  pub counted : Counts net lab counts
+  pub count-rows : net .edges ≤ length counts
+  pub narrow : (e : ℕ) → e < net .edges → at counts e ≤ 32
+  pub based : Bases net lab base
+  pub base-rows : net .edges < length base
+  pub chosen : k ≡ at base (net .edges)
+  pub few : k ≤ 24

@@ -1,0 +1,2 @@
+-- Between the stages of reading.
+pub mod Stages
