@@ -11,6 +11,8 @@ pub mod Written
 -- From a record's text to its lines, and from any text to an account of its lines.
 pub mod Run
 pub mod Account
+-- Facts in a row.
+pub mod Order
 -- The rules of the whole: one answer at most, and one at least.
 pub mod Judged
 pub mod Lowest
