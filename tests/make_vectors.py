@@ -15,11 +15,11 @@ from collections import Counter
 from collections.abc import Callable
 from pathlib import Path
 
-from netlists import CARDS
-import running_cases as running
+import reading_cases as reading
 import retiming_cases as retiming
-from reading_cases import expected, reading_cases
-from reference import reread, text_of
+import running_cases as running
+from netlists import CARDS
+from reference import frame_line, reread, text_of
 from retiming import listing
 
 SEED = 20010
@@ -31,60 +31,44 @@ def reread_run() -> tuple[bytes, bytes]:
     return text, reread(text)
 
 
-def rereads_run() -> tuple[bytes, bytes]:
-    """The program rereads: each text after a frame `00` with its length."""
-    given, printed = [], []
-    for name, cases in reading_cases(SEED).items():
-        answers = [expected(case) for case in cases]
-        for case, answer in zip(cases, answers):
-            given.append(b"00%04X\n" % len(case.text) + case.text)
-            printed.append(answer)
-        print(f"rereads: {name}: {len(cases)} texts; {numbers_given(answers, 'read')}")
-    return b"".join(given), b"".join(printed)
-
-
-def run_run() -> tuple[bytes, bytes]:
-    """The program run: each text and its vectors after a frame `07` with their lengths and the room."""
-    given, printed = [], []
-    for name, cases in running.running_cases(SEED).items():
-        answers = [running.expected(case) for case in cases]
-        for case, answer in zip(cases, answers):
-            given.append(running.head(case) + case.text + case.vectors)
-            printed.append(answer)
-        print(f"run: {name}: {len(cases)} runs; {numbers_given(answers, 'ran')}")
-    return b"".join(given), b"".join(printed)
-
-
 def listing_run() -> tuple[bytes, bytes]:
     """The program listing on card A."""
     text = text_of(CARDS["A"])
     return text, listing(text)
 
 
-def listings_run() -> tuple[bytes, bytes]:
-    """The program listings: each text after a frame `00` with its length."""
+def batch_run() -> tuple[bytes, bytes]:
+    """The program batch: texts to read and write again, then texts to list, then runs."""
     given, printed = [], []
+    for name, cases in reading.reading_cases(SEED).items():
+        given += [job(0, case.text) for case in cases]
+        printed += told("reread", name, [reading.expected(case) for case in cases])
     for name, cases in retiming.retiming_cases(SEED).items():
-        answers = [retiming.expected(case) for case in cases]
-        for case, answer in zip(cases, answers):
-            given.append(b"00%04X\n" % len(case.text) + case.text)
-            printed.append(answer)
-        print(f"listings: {name}: {len(cases)} texts; {numbers_given(answers, 'retimed')}")
+        given += [job(7, case.text) for case in cases]
+        printed += told("list", name, [retiming.expected(case) for case in cases])
+    for name, cases in running.running_cases(SEED).items():
+        given += [job(8, case.text, case.vectors, case.room) for case in cases]
+        printed += told("run", name, [running.expected(case) for case in cases])
     return b"".join(given), b"".join(printed)
 
 
-def numbers_given(answers: list[bytes], none: str) -> str:
-    """How often each number was given, for the reader of the run; `none` where nothing is refused."""
+def job(kind: int, text: bytes, vectors: bytes = b"", room: int = 0) -> bytes:
+    """A job: kind (1), text length (2), number of vector bytes (2), length of the buffer to run into (2); the text; the vectors."""
+    numbers = (len(text), len(vectors), room)
+    return frame_line(bytes([kind]) + b"".join(n.to_bytes(2, "big") for n in numbers)) + text + vectors
+
+
+def told(kind: str, name: str, answers: list[bytes]) -> list[bytes]:
+    """The answers, after a line for the reader of the run: how often each number was given, 0 where nothing is refused."""
     seen = Counter(int(a[2:4], 16) if a.startswith(b"0F") else 0 for a in answers)
-    return ", ".join(f"{number or none}: {times}" for number, times in sorted(seen.items()))
+    print(f"batch: {kind}: {name}: {len(answers)}; " + ", ".join(f"{number}: {times}" for number, times in sorted(seen.items())))
+    return answers
 
 
 RUNS: dict[str, Callable[[], tuple[bytes, bytes]]] = {
     "reread": reread_run,
-    "rereads": rereads_run,
-    "run": run_run,
     "listing": listing_run,
-    "listings": listings_run,
+    "batch": batch_run,
 }
 
 

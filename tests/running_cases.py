@@ -2,7 +2,6 @@
 
   Case                 a text, vector bytes, the room to run into, and the answer claimed
   running_cases        all of them, by class, in a fixed order
-  head                 the frame that stands before a case in the input of the program run
 
 A claim is the outputs, a Refusal, or None where only the reference says (random netlists). The
 outputs claimed come from a formula of the one circuit (a delay line, a counter, a gate's table),
@@ -22,7 +21,7 @@ from netlists import (
 )
 from reference import (
     AND, BUFFER, INPUT, INVERTER, LINE, NAND, NODE, NOR, OR, OUTPUT, XNOR, XOR,
-    Edge, Netlist, Refusal, check_room, check_vectors, frame_line, read, run, step, text_of,
+    Edge, Netlist, Refusal, check_room, check_vectors, read, run, step, text_of,
 )
 
 
@@ -34,12 +33,6 @@ class Case:
     vectors: bytes
     room: int
     claim: bytes | Refusal | None
-
-
-def head(case: Case) -> bytes:
-    """The frame before a case: `07`, text length (2), number of vector bytes (2), buffer length (2)."""
-    numbers = (len(case.text), len(case.vectors), case.room)
-    return frame_line(bytes([7]) + b"".join(n.to_bytes(2, "big") for n in numbers))
 
 
 def run_by_steps(text: bytes, vectors: bytes, room: int) -> bytes:

@@ -1,22 +1,22 @@
 -- The columns that the functions of `cells` leave are the program of the moved netlist.
 --   celled              the numbered cells, as what is due of them asks for
 --   compiled            specs/Cells' `Compiled`
-use Prim.Native.Nat.{ℕ, zero, suc, _+_, _*_, _-_, _/_, _%_, _≤_, _<_}
+use Prim.Native.Nat.{ℕ, suc, _+_, _*_, _-_, _/_, _%_, _≤_, _<_}
 use native.Mathlib.Omega.{arith}
 use native.Mathlib.Numerals.{add-one}
-use mathlib.Core.Path.{_≡_, refl, sym, ap, ap₂, _∙_}
+use mathlib.Core.Path.{_≡_, sym, ap, ap₂, _∙_}
 use mathlib.Core.Bool.{cond}
 use mathlib.Core.Logic.{inl}
-use mathlib.Core.List.{List, _∷_, map}
+use mathlib.Core.List.{List, map}
 use lib.Dec.{ltb}
 use lib.ListN.{length, take, drop}
-use lib.Seq.{drop-cons}
 use Rattle.theory.specs.Clock.{gather}
 use Rattle.theory.specs.Move.{sum}
-use Rattle.theory.proofs.clocks.Seen.{gather-same}
+use Rattle.theory.proofs.clocks.Seen.{gather-same, gather-map}
 use Rattle.graph.specs.Columns.{at}
 use Rattle.graph.specs.inner.Sort.{group, sorted, Sorts}
 use Rattle.graph.proofs.Sorted.{sorted-part}
+use Rattle.graph.proofs.Parts.{part-map}
 use Rattle.netlist.specs.declared.Netlist.{Netlist}
 use Rattle.netlist.proofs.Run.{fit-wired}
 use Rattle.search.specs.inner.Program.{operandsOf}
@@ -25,26 +25,13 @@ use Rattle.moves.specs.inner.Labels.{lagsOf, Labelled, Counts, Bases}
 use Rattle.choose.specs.inner.Numbers.{lagAt, Arranged, CellsNumbered}
 use Rattle.choose.specs.inner.Sources.{sourceAt, widthAt, Operands}
 use Rattle.choose.specs.inner.Dues.{cellAt, Celled, Dues}
-use Rattle.moves.proofs.Labels.{sum-more, sum-grows}
-use Rattle.choose.proofs.Compiles.{gather-map}
+use Rattle.theory.proofs.numbers.Sums.{sum-more, sum-grows}
 use Rattle.choose.proofs.Enters.{all-edges, ins-at, width}
 
 pub celled : (lag : ℕ → ℕ) (order : List ℕ) (nodes cells : ℕ) (id code : List ℕ) → ((v : ℕ) → v < nodes → lag v ≤ 24)
     → CellsNumbered lag order nodes 24 0 cells id code → Celled lag nodes cells id
 celled lag order nodes cells id code low n =
     record { rows = n .id-rows; low = low; inside = λ v t hv ht. n .inside v t hv ht (inl (let z : t < 24 = omega (arith, low v hv) in z)) }
-
-part-map : (f : ℕ → ℕ) (xs ys : List ℕ) (n a b : ℕ) → a + n ≤ length ys → b + n ≤ length xs → ((k : ℕ) → k < n → at ys (a + k) ≡ f (at xs (b + k)))
-    → take n (drop a ys) ≡ map f (take n (drop b xs))
-part-map f xs ys zero a b h l w = refl
-part-map f xs ys (suc n) a b h l w =
-    rw (drop-cons xs b 0 (omega arith), drop-cons ys a 0 (omega arith))
-    (ap₂ _∷_ (subst₂-zero (w 0 (omega arith)))
-    (part-map f xs ys n (suc a) (suc b) (omega arith) (omega arith)
-    (λ k m. ap (at ys) (let z : suc a + k ≡ a + suc k = omega arith in z) ∙ w (suc k) (omega arith) ∙ ap (λ i. f (at xs i)) (let z : b + suc k ≡ suc b + k = omega arith in z))))
-  where
-    subst₂-zero : at ys (a + 0) ≡ f (at xs (b + 0)) → at ys a ≡ f (at xs b)
-    subst₂-zero q = ap (at ys) (let z : a ≡ a + 0 = omega arith in z) ∙ q ∙ ap (λ i. f (at xs i)) (let z : b + 0 ≡ b = omega arith in z)
 
 module _ (net : Netlist) (lab counts base order id code old ins begin kind first operand due : List ℕ) (cells total : ℕ) (s : Labelled net lab)
     (c : Counts net lab counts) (b : Bases net lab base) (o : Arranged order (net .nodes)) (low : (v : ℕ) → v < net .nodes → lagAt lab v ≤ 24)

@@ -1,88 +1,37 @@
 -- The program that stands for a moved netlist's search (specs/Cells): its cells have the values that the nodes have below their lags, so a search through the program is one through the choices.
---   gather-hit, gather-miss    one edge further: it enters the node or not
---   gather-map, gather-at      a list made of what is gathered; a place in it
 --   after, given        the moved netlist's registers, and its values with all inputs at 0
 --   source-before       the cells that are a cell's operands stand before it
 --   edge-shows          the operand that stands for an edge shows what the edge shows
 --   cell-value          the cell of node v at clock t has v's value at t in the moved netlist
 --   compiled-holds      the cells give what is due exactly where the choice carries the start
 --   solved              so the program's answer is retiming's
-use Prim.Native.Nat.{ℕ, zero, suc, _+_, _^_, _/_, _%_, _<_, _≤_}
+use Prim.Native.Nat.{ℕ, _+_, _-_, _^_, _/_, _%_, _<_, _≤_}
 use native.Mathlib.Omega.{arith}
-use native.Mathlib.Decide.{ℕ-discrete}
-use mathlib.Core.Path.{_≡_, refl, sym, ap, ap₂, _∙_, subst}
+use mathlib.Core.Path.{_≡_, sym, ap, ap₂, _∙_, subst}
 use mathlib.Core.Bool.{Bool, true, false}
 use mathlib.Core.Logic.{⊎-elim, _↔_}
-use mathlib.Core.List.{List, [], _∷_, _++_, map, map-append, append-nil}
-use borrow.Author.Tests.{lt-ltb, le-ltb, eq-eqb, ne-eqb}
+use mathlib.Core.List.{List, map}
+use borrow.Author.Tests.{lt-ltb, le-ltb}
 use lib.IntN.{ℤ}
-use lib.ListN.{length, length-append, List·getD-append}
-use lib.Seq.{getD-at}
-use Rattle.theory.specs.Clock.{Regs, seen, only, gather, sees, value}
+use Rattle.theory.specs.Clock.{Regs, seen, sees, value}
 use Rattle.theory.specs.Lag.{up, down, newCount, Legal}
 use Rattle.theory.specs.Move.{Moved, move, quiet, Carried, sum, chosenOn, chosenIn, digit, choiceOf}
 use Rattle.theory.specs.Gate.{gate}
 use Rattle.theory.specs.Retimer.{Sound, retimed}
 use Rattle.theory.proofs.numbers.Whole.{no-down}
 use Rattle.theory.proofs.numbers.Sums.{sum-within}
-use Rattle.theory.proofs.clocks.Seen.{seen-is, gather-same}
+use Rattle.theory.proofs.clocks.Seen.{seen-is, gather-same, gather-map, gather-at}
 use Rattle.theory.proofs.clocks.Trace.{clock-induction}
 use Rattle.theory.proofs.moves.Retime.{new-moved, new-no-loop, new-trace}
 use Rattle.theory.proofs.moves.Choose.{choice-number}
 use Rattle.graph.specs.Columns.{at, bit}
 use Rattle.netlist.specs.declared.Netlist.{Netlist}
 use Rattle.netlist.specs.Net.{graphOf, regsOf}
-use Rattle.search.specs.inner.Program.{look, valuesTo, valueAt, Program, GivesDues, Solves}
+use Rattle.search.specs.inner.Program.{programOf, look, valuesTo, valueAt, RightProgram, GivesDues, Solves}
+use Rattle.search.proofs.Values.{look-bit, look-cell, values-at, value-gate}
 use Rattle.choose.specs.inner.Cells.{source, Compiled}
 use Rattle.choose.specs.inner.Wires.{Chooses, Standing}
-use Rattle.choose.proofs.Programs.{look-bit, look-cell, values-at, value-gate, operand-at}
-
--- ── What is gathered ────────────────────────────────────────────────────────────────────────
-
-module _ (dst f : ℕ → ℕ) (v n : ℕ) where
-  gather-hit : dst n ≡ v → gather dst f v (suc n) ≡ gather dst f v n ++ (f n ∷ [])
-  unfolding gather only
-  gather-hit q = rw (eq-eqb (dst n) v q)
-
-  gather-miss : ¬ (dst n ≡ v) → gather dst f v (suc n) ≡ gather dst f v n
-  unfolding gather only
-  gather-miss q = rw (ne-eqb (dst n) v q) (append-nil (gather dst f v n))
-
-pub gather-map : (g dst f : ℕ → ℕ) (v n : ℕ) → map g (gather dst f v n) ≡ gather dst (λ e. g (f e)) v n
-unfolding gather
-gather-map g dst f v zero = refl
-gather-map g dst f v (suc n) = go (ℕ-discrete (dst n) v) (gather-map g dst f v n)
-  where
-    go : Dec (dst n ≡ v) → map g (gather dst f v n) ≡ gather dst (λ e. g (f e)) v n → map g (gather dst f v (suc n)) ≡ gather dst (λ e. g (f e)) v (suc n)
-    go (yes q) r =
-        ap (map g) (gather-hit dst f v n q) ∙ map-append g (gather dst f v n) (f n ∷ []) ∙ ap (λ l. l ++ (g (f n) ∷ [])) r
-        ∙ sym (gather-hit dst (λ e. g (f e)) v n q)
-    go (no q) r = ap (map g) (gather-miss dst f v n q) ∙ r ∙ sym (gather-miss dst (λ e. g (f e)) v n q)
-
--- An edge that enters v has a place in the list.
-pub gather-at : (dst f : ℕ → ℕ) (v n e : ℕ) → e < n → dst e ≡ v → (p : ℕ) × (p < length (gather dst f v n)) × (at (gather dst f v n) p ≡ f e)
-gather-at dst f v zero e h d = absurd (let z : ⊥ = omega arith in z)
-gather-at dst f v (suc n) e h d = go (ℕ-discrete e n) (ℕ-discrete (dst n) v) (gather-at dst f v n e)
-  where
-    Place : ℕ → Type 0
-    Place m = (p : ℕ) × (p < length (gather dst f v m)) × (at (gather dst f v m) p ≡ f e)
-
-    go : Dec (e ≡ n) → Dec (dst n ≡ v) → (e < n → dst e ≡ v → Place n) → Place (suc n)
-    go (yes q) (no o) r = absurd (o (ap dst (sym q) ∙ d))
-    go (yes q) (yes o) r =
-        let l = gather dst f v n in (
-          length l,
-          rw (gather-hit dst f v n o) (simp length-append (omega arith)),
-          ap (λ m. at m (length l)) (gather-hit dst f v n o) ∙ getD-at l (f n) [] 0 (length l) refl ∙ ap f (sym q),
-        )
-    go (no q) (no o) r = rw (gather-miss dst f v n o) (r (omega arith) d)
-    go (no q) (yes o) r =
-        let (p, h, k) = r (omega arith) d in
-        let l = gather dst f v n in (
-          p,
-          rw (gather-hit dst f v n o) (simp length-append (omega arith)),
-          ap (λ m. at m p) (gather-hit dst f v n o) ∙ List·getD-append l (f n ∷ []) 0 p h ∙ k,
-        )
+use Rattle.choose.proofs.Programs.{operand-at}
 
 -- ── The values of the cells ─────────────────────────────────────────────────────────────────
 
@@ -95,7 +44,7 @@ given net r c = value gate (graphOf net) (after net r c) quiet
 
 module _ (net : Netlist) (ok : Sound gate (graphOf net) (regsOf net)) (r : ℕ → ℤ) (legal : Legal (graphOf net) (regsOf net .count) r)
     {cells k total : ℕ} {kind first operand due : List ℕ} {cell : ℕ → ℕ → ℕ} (made : Compiled net r cells kind first operand due total cell)
-    (size : k ≡ chosenIn (graphOf net) (regsOf net .count) r) (right : Program cells k kind first operand) where
+    (size : k ≡ chosenIn (graphOf net) (regsOf net .count) r) (right : RightProgram cells k (programOf kind first operand)) where
   moved : (c : ℕ) → Moved (graphOf net) (regsOf net) (after net r c) r (choiceOf (graphOf net) (regsOf net .count) r c) (value gate (graphOf net) (regsOf net) quiet)
   moved c = new-moved gate (graphOf net) (ok .wired) (regsOf net) (ok .no-loop) r legal (choiceOf (graphOf net) (regsOf net .count) r c)
 
@@ -116,14 +65,14 @@ module _ (net : Netlist) (ok : Sound gate (graphOf net) (regsOf net)) (r : ℕ �
   -- at a clock below the source's own lag, and the operand is that cell.
   pub edge-shows : (c v t e : ℕ) → v < net .nodes → t < up (r v) → e < net .edges → graphOf net .dst e ≡ v
       → ((q : ℕ) → after net r c .count e + q ≡ t → q < up (r (graphOf net .src e))
-      → valueAt kind first operand k c (cell (graphOf net .src e) q) ≡ given net r c (graphOf net .src e) q)
-      → look k c (valuesTo kind first operand k c (cell v t)) (source net r cell t e) ≡ seen (graphOf net) (after net r c) (given net r c) e t
+      → valueAt (programOf kind first operand) k c (cell (graphOf net .src e) q) ≡ given net r c (graphOf net .src e) q)
+      → look k c (valuesTo (programOf kind first operand) k c (cell v t)) (source net r cell t e) ≡ seen (graphOf net) (after net r c) (given net r c) e t
   unfolding move
   edge-shows c v t e hv ht he d ih =
       sym (seen-is (graphOf net) (after net r c) (given net r c) e t (look k c vals (source net r cell t e)) early late)
     where
       vals : List ℕ
-      vals = valuesTo kind first operand k c (cell v t)
+      vals = valuesTo (programOf kind first operand) k c (cell v t)
 
       N : ℕ
       N = newCount (graphOf net) (regsOf net .count) r e
@@ -151,28 +100,28 @@ module _ (net : Netlist) (ok : Sound gate (graphOf net) (regsOf net)) (r : ℕ �
           let i = cell (graphOf net .src e) q in
           let z : source net r cell t e ≡ 32 + i = rw (le-ltb t N (omega arith)) (ap (λ n. 32 + cell (graphOf net .src e) n) (omega arith)) in
           sym (ih q h (omega (arith, lag, one-sided, moved c .counts e he)))
-          ∙ sym (values-at kind first operand k c (cell v t) i (source-before v t e i hv ht he d z))
-          ∙ sym (look-cell k c vals i)
+          ∙ sym (values-at (programOf kind first operand) k c (cell v t) i (source-before v t e i hv ht he d z))
+          ∙ ap (at vals) (let y : i ≡ 32 + i - 32 = omega arith in y) ∙ sym (look-cell k c vals (32 + i) (omega arith))
           ∙ ap (look k c vals) (sym z)
 
   -- By induction on the clock and, within it, on the order of the nodes, in the moved netlist, which has no loop without a register. A node of positive lag is no pin,
   -- so its value is its gate's over what it sees, and so is its cell's.
-  pub cell-value : (c v t : ℕ) → v < net .nodes → t < up (r v) → valueAt kind first operand k c (cell v t) ≡ value gate (graphOf net) (retimed gate (graphOf net) (regsOf net) r c) quiet v t
+  pub cell-value : (c v t : ℕ) → v < net .nodes → t < up (r v) → valueAt (programOf kind first operand) k c (cell v t) ≡ value gate (graphOf net) (retimed gate (graphOf net) (regsOf net) r c) quiet v t
   unfolding sees move
   cell-value c =
       clock-induction (graphOf net) (ok .wired) (after net r c) (new-no-loop gate (graphOf net) (ok .wired) (regsOf net) (ok .no-loop) r legal choice)
-      (λ v t. t < up (r v) → valueAt kind first operand k c (cell v t) ≡ given net r c v t) step
+      (λ v t. t < up (r v) → valueAt (programOf kind first operand) k c (cell v t) ≡ given net r c v t) step
     where
       choice : ℕ → ℕ → ℕ
       choice = choiceOf (graphOf net) (regsOf net .count) r c
 
       step : (v t : ℕ) → v < net .nodes
           → ((e q : ℕ) → e < net .edges → graphOf net .dst e ≡ v → after net r c .count e + q ≡ t → q < up (r (graphOf net .src e))
-          → valueAt kind first operand k c (cell (graphOf net .src e) q) ≡ given net r c (graphOf net .src e) q)
-          → t < up (r v) → valueAt kind first operand k c (cell v t) ≡ given net r c v t
+          → valueAt (programOf kind first operand) k c (cell (graphOf net .src e) q) ≡ given net r c (graphOf net .src e) q)
+          → t < up (r v) → valueAt (programOf kind first operand) k c (cell v t) ≡ given net r c v t
       step v t hv ih ht =
-          let show = look k c (valuesTo kind first operand k c (cell v t)) in
-          value-gate kind first operand k c (cell v t)
+          let show = look k c (valuesTo (programOf kind first operand) k c (cell v t)) in
+          value-gate (programOf kind first operand) k c (cell v t)
           ∙ ap₂ (λ n l. gate n (map show l)) (made .kinds v t hv ht) (made .operands v t hv ht)
           ∙ ap (gate (graphOf net .kind v))
           (gather-map show (graphOf net .dst) (source net r cell t) v (net .edges)
@@ -183,19 +132,19 @@ module _ (net : Netlist) (ok : Sound gate (graphOf net) (regsOf net)) (r : ℕ �
   -- ── What is due ───────────────────────────────────────────────────────────────────────────
 
   -- The due of an old value asks of its cell what carrying the start asks of its node. Each old value that is to be carried has its due, and each due is one's.
-  pub compiled-holds : (c : ℕ) → GivesDues k kind first operand due total c ↔ Carried gate (graphOf net) (regsOf net) r (choiceOf (graphOf net) (regsOf net .count) r c)
+  pub compiled-holds : (c : ℕ) → GivesDues k (programOf kind first operand) due total c ↔ Carried gate (graphOf net) (regsOf net) r (choiceOf (graphOf net) (regsOf net .count) r c)
   compiled-holds c = (forth, back)
     where
-      forth : GivesDues k kind first operand due total c → Carried gate (graphOf net) (regsOf net) r (choiceOf (graphOf net) (regsOf net .count) r c)
+      forth : GivesDues k (programOf kind first operand) due total c → Carried gate (graphOf net) (regsOf net) r (choiceOf (graphOf net) (regsOf net .count) r c)
       forth holds e s t he hs p =
           let v = graphOf net .src e in
           let d = made .dues .complete e s t (record { edge = he; old = hs; clock = p }) in
           let i : at due (d .place) / 2 ≡ cell v t = omega (arith, d .holds) in
           let x : at due (d .place) % 2 ≡ bit (at (net .start) e) s = omega (arith, d .holds) in
           sym (cell-value c v t (ok .wired .src-in e he) (omega arith))
-          ∙ ap (valueAt kind first operand k c) (sym i) ∙ sym (holds (d .place) (d .within)) ∙ x
+          ∙ ap (valueAt (programOf kind first operand) k c) (sym i) ∙ sym (holds (d .place) (d .within)) ∙ x
 
-      back : Carried gate (graphOf net) (regsOf net) r (choiceOf (graphOf net) (regsOf net .count) r c) → GivesDues k kind first operand due total c
+      back : Carried gate (graphOf net) (regsOf net) r (choiceOf (graphOf net) (regsOf net .count) r c) → GivesDues k (programOf kind first operand) due total c
       back carried x h =
           let d = made .dues .sound x h in
           let q = d .carry in
@@ -203,7 +152,7 @@ module _ (net : Netlist) (ok : Sound gate (graphOf net) (regsOf net)) (r : ℕ �
           let i : at due x / 2 ≡ cell v (d .clock) = omega (arith, d .is) in
           let y : at due x % 2 ≡ bit (at (net .start) (d .edge)) (d .old) = omega (arith, d .is) in
           y ∙ sym (carried (d .edge) (d .old) (d .clock) (q .edge) (q .old) (q .clock))
-          ∙ sym (cell-value c v (d .clock) (ok .wired .src-in (d .edge) (q .edge)) (omega (arith, q .old, q .clock))) ∙ ap (valueAt kind first operand k c) (sym i)
+          ∙ sym (cell-value c v (d .clock) (ok .wired .src-in (d .edge) (q .edge)) (omega (arith, q .old, q .clock))) ∙ ap (valueAt (programOf kind first operand) k c) (sym i)
 
 -- ── The program's answer ────────────────────────────────────────────────────────────────────
 
@@ -211,7 +160,7 @@ module _ (net : Netlist) (ok : Sound gate (graphOf net) (regsOf net)) (r : ℕ �
     {k cells rows : ℕ} {kind first operand due begin : List ℕ} (size : k ≡ chosenIn (graphOf net) (regsOf net .count) r)
     (s : Standing net r k cells rows kind first operand due begin) where
   -- A choice of bits is, where it is looked at, a number below 2 ^ k (`choice-number`).
-  pub solved : (found : Bool) (c : ℕ) → Solves k kind first operand due (at begin rows) found c → Chooses net r found c
+  pub solved : (found : Bool) (c : ℕ) → Solves k (programOf kind first operand) due (at begin rows) found c → Chooses net r found c
   solved true c a = record {
     small = subst (λ n. c < 2 ^ n) size (a .0);
     carried = s .holds c .0 (a .1);

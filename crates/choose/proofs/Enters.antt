@@ -10,7 +10,8 @@ use mathlib.Core.List.{List}
 use lib.ListN.{length, take, drop, length-append}
 use Rattle.graph.specs.Columns.{at}
 use Rattle.graph.specs.inner.Sort.{group, sorted, Sorts}
-use Rattle.graph.proofs.Sorted.{group-item, sorted-part, sorted-place, sorted-room, sorted-length, sets-at}
+use Rattle.graph.proofs.Sorted.{group-item, sorted-part, sorted-place, sorted-room, sorted-length}
+use Rattle.graph.proofs.Sets.{sets-at}
 use Rattle.search.specs.inner.Program.{operandsOf}
 use Rattle.choose.proofs.Programs.{operand-at}
 

@@ -1,33 +1,20 @@
 -- The evaluation order of the moved netlist.
---   loop-kinds          gate kinds make no loop
 --   moved-no-loop       the moved netlist has no loop without a register
 --   ordered-counts      an order depends on which counts are 0
-use Prim.Native.Nat.{ℕ, suc, _+_, _<_}
-use native.Mathlib.Omega.{arith}
-use mathlib.Core.Path.{_≡_, refl, sym, ap, _∙_}
+use Prim.Native.Nat.{ℕ, _<_}
+use mathlib.Core.Path.{_≡_, sym, _∙_}
 use mathlib.Core.List.{List}
-use Rattle.theory.specs.Walk.{Walk, one, more, registers, walkSteps, Loop}
+use Rattle.theory.specs.Walk.{Loop}
 use Rattle.theory.specs.Lag.{newCount}
 use Rattle.theory.proofs.walks.Walks.{loop-shift}
 use Rattle.theory.proofs.labels.Bias.{legal-shifts}
 use Rattle.graph.specs.Columns.{at, columnGraph}
 use Rattle.graph.specs.inner.Sort.{Ordered}
+use Rattle.graph.proofs.Laws.{loop-kinds}
 use Rattle.netlist.specs.declared.Netlist.{Netlist}
 use Rattle.netlist.specs.Net.{graphOf, regsOf}
 use Rattle.moves.specs.inner.Labels.{lagsOf, Labelled, Counts}
 use Rattle.moves.proofs.Lags.{registers-alike}
-
-module _ (n m : ℕ) (k k′ from to : List ℕ) (count : ℕ → ℕ) where
-  walk-kinds : {u v : ℕ} → (p : Walk (columnGraph n m k from to) u v)
-      → (q : Walk (columnGraph n m k′ from to) u v) × (walkSteps q ≡ walkSteps p) × (registers count q ≡ registers count p)
-  unfolding walkSteps registers
-  walk-kinds (one h) = (one h, refl, refl)
-  walk-kinds (more e h p) = let w = walk-kinds p in (more e h (w .0), ap suc (w .1), ap (λ r. r + count e) (w .2))
-
-  pub loop-kinds : Loop (columnGraph n m k from to) count → Loop (columnGraph n m k′ from to) count
-  loop-kinds l =
-      let w = walk-kinds (l .walk) in
-      record { node = l .node; walk = w .0; moves = omega (arith, l .moves, w .1); bare = w .2 ∙ l .bare }
 
 pub moved-no-loop : (net : Netlist) (lab counts : List ℕ) → Labelled net lab → Counts net lab counts → ¬ Loop (graphOf net) (regsOf net .count)
     → (bytes : List ℕ) → ((e : ℕ) → e < net .edges → at bytes e ≡ at counts e)

@@ -19,7 +19,7 @@ use lib.ListN.{length}
 use Rattle.theory.specs.Lag.{up}
 use Rattle.theory.specs.Move.{sum, chosenIn}
 use Rattle.theory.proofs.numbers.Whole.{no-down}
-use Rattle.theory.proofs.numbers.Sums.{sum-within}
+use Rattle.theory.proofs.numbers.Sums.{sum-within, sum-more, sum-grows}
 use Rattle.theory.proofs.retimer.Levels.{lag-chosen}
 use Rattle.graph.specs.Columns.{at}
 use Rattle.graph.specs.inner.Sort.{group, Ordered}
@@ -27,17 +27,17 @@ use Rattle.graph.proofs.Sorted.{sorted-room}
 use Rattle.netlist.specs.declared.Netlist.{Netlist}
 use Rattle.netlist.specs.Net.{graphOf, regsOf}
 use Rattle.netlist.proofs.Run.{fit-wired}
-use Rattle.search.specs.inner.Program.{Program, Owes, Solves}
+use Rattle.search.specs.inner.Program.{programOf, RightProgram, Owes, Solves}
 use Rattle.choose.specs.inner.Cells.{Compiled}
 use Rattle.moves.specs.inner.Labels.{lagsOf, chosenAt}
 use Rattle.choose.specs.inner.Numbers.{lagAt, Arranged, EarlierCell, CellsNumbered}
 use Rattle.choose.specs.inner.Sources.{sourceAt, SourceRows, widthAt, OperandRows, Operands}
 use Rattle.choose.specs.inner.Dues.{cellAt, Celled, Dues}
-use Rattle.moves.specs.inner.Moving.{Moving}
+use Rattle.moves.specs.inner.Moving.{Moving, Choosing}
 use Rattle.choose.specs.inner.Wires.{Chooses, Entering, Wirable, Standing}
-use Rattle.moves.proofs.Labels.{from-node, low-nodes, low-edges, sum-more, sum-grows}
-use Rattle.choose.proofs.Rules.{kind-low, fan-low}
-use Rattle.choose.proofs.Numbers.{ordered-arranged}
+use Rattle.moves.proofs.Labels.{from-node, low-nodes, low-edges}
+use Rattle.netlist.proofs.Lowest.{kind-low, fan-low}
+use Rattle.choose.proofs.Arranged.{ordered-arranged}
 use Rattle.choose.proofs.Owing.{owes-cells}
 use Rattle.choose.proofs.Columns.{celled, compiled}
 use Rattle.choose.proofs.Compiles.{compiled-holds, solved}
@@ -49,13 +49,16 @@ pub record Placed (net : Netlist) (lab counts order id code : List ℕ) (cells :
   pub ordered : Ordered (net .nodes) (net .edges) (net .from) (net .to) counts order
   pub numbered : CellsNumbered (lagAt lab) order (net .nodes) 24 0 cells id code
 
-module _ {net : Netlist} {lab counts base : List ℕ} {k : ℕ} (m : Moving net lab counts base k) where
+module _ {net : Netlist} {lab counts base : List ℕ} {k : ℕ} (ch : Choosing net lab counts base k) where
+  abbrev m : Moving net lab counts
+  m = ch .moving
+
   pub size : k ≡ chosenIn (graphOf net) (regsOf net .count) (lagsOf lab)
-  size = m .chosen ∙ m .based (net .edges) (omega arith)
+  size = ch .chosen ∙ ch .based (net .edges) (omega arith)
 
   -- No lag is above the number of values chosen.
   pub low-lag : (v : ℕ) → v < net .nodes → lagAt lab v ≤ 24
-  low-lag v h = omega (arith, m .few, size, lag-chosen (graphOf net) (regsOf net .count) (lagsOf lab) (m .labelled .legal) (m .sure .fed) v h)
+  low-lag v h = omega (arith, ch .few, size, lag-chosen (graphOf net) (regsOf net .count) (lagsOf lab) (m .labelled .legal) (m .sure .fed) v h)
 
   -- Once its registers are spent, an edge shows its source at a clock below the source's own lag.
   source-lag : (t e : ℕ) → e < net .edges → t < lagAt lab (at (net .to) e) → at counts e ≤ t → t - at counts e < lagAt lab (at (net .from) e)
@@ -66,10 +69,10 @@ module _ {net : Netlist} {lab counts base : List ℕ} {k : ℕ} (m : Moving net 
   number-low : (t e : ℕ) → e < net .edges → t < lagAt lab (at (net .to) e) → t < at counts e → at base e + t < k
   number-low t e h l q =
       let c : t < chosenAt net lab e = omega (arith, m .counted e h) in
-      omega (arith, m .based e (omega arith), size, sum-within (chosenAt net lab) (net .edges) e t h c)
+      omega (arith, ch .based e (omega arith), size, sum-within (chosenAt net lab) (net .edges) e t h c)
 
   base-low : (e : ℕ) → e < net .edges → at base e ≤ k
-  base-low e h = omega (arith, m .based e (omega arith), size, sum-grows (chosenAt net lab) e (net .edges) (omega arith))
+  base-low e h = omega (arith, ch .based e (omega arith), size, sum-grows (chosenAt net lab) e (net .edges) (omega arith))
 
   pub arranged : {order : List ℕ} → net .nodes ≤ length order → Ordered (net .nodes) (net .edges) (net .from) (net .to) counts order → Arranged order (net .nodes)
   arranged rows o = ordered-arranged (net .nodes) (net .edges) (net .from) (net .to) counts _ (low-nodes net lab (m .labelled)) rows o
@@ -134,8 +137,8 @@ module _ {net : Netlist} {lab counts base : List ℕ} {k : ℕ} (m : Moving net 
           shown e he q = record {
             from-row = omega arith;
             count-row = omega (arith, m .count-rows);
-            base-row = omega (arith, m .base-rows);
-            low = omega (arith, base-low e he, m .few);
+            base-row = omega (arith, ch .base-rows);
+            low = omega (arith, base-low e he, ch .few);
             node = omega (arith, low-nodes net lab (m .labelled), from-node net lab (m .labelled) e he);
             cell = λ l. omega (arith, source-earlier i e h he q l, few-cells);
           }
@@ -174,9 +177,9 @@ module _ {net : Netlist} {lab counts base : List ℕ} {k : ℕ} (m : Moving net 
                 let y = source-earlier i e h he q (omega arith) in
                 inr ((let x : 32 ≤ at operand j = omega (arith, w) in x), (let x : at operand j < 32 + i = omega (arith, w, y) in x))
 
-        right : Program cells k kind first operand
+        right : RightProgram cells k (programOf kind first operand)
         right = record {
-          few-bits = m .few;
+          few-bits = ch .few;
           few-cells = few-cells;
           kind-rows = omega (arith, few-cells);
           first-rows = omega (arith, few-cells);
@@ -189,7 +192,7 @@ module _ {net : Netlist} {lab counts base : List ℕ} {k : ℕ} (m : Moving net 
 
         made : Compiled net (lagsOf lab) cells kind first operand due (at starts rows) (cellAt id)
         made =
-            compiled net lab counts base order id code (g .old) ins begin kind first operand due cells (at starts rows) (m .labelled) (m .counted) (m .based) (arranged (placed .rows) o) low-lag n (g .room) (g .sorts) ks os
+            compiled net lab counts base order id code (g .old) ins begin kind first operand due cells (at starts rows) (m .labelled) (m .counted) (ch .based) (arranged (placed .rows) o) low-lag n (g .room) (g .sorts) ks os
             (omega (arith, few-places)) ds
 
         pub standing : Standing net (lagsOf lab) k cells rows kind first operand due starts
@@ -212,10 +215,10 @@ module _ {net : Netlist} {lab counts base : List ℕ} {k : ℕ} (m : Moving net 
 
   pub stands : {cells rows : ℕ} {kind first operand due begin : List ℕ} → Standing net (lagsOf lab) (at base (net .edges)) cells rows kind first operand due begin
       → Standing net (lagsOf lab) k cells rows kind first operand due begin
-  stands s = rw (m .chosen) s
+  stands s = rw (ch .chosen) s
 
   pub chooses : {cells rows : ℕ} {kind first operand due begin : List ℕ} → Standing net (lagsOf lab) k cells rows kind first operand due begin
-      → (found : Bool) (c : ℕ) → Solves k kind first operand due (at begin rows) found c → Chooses net (lagsOf lab) found c
+      → (found : Bool) (c : ℕ) → Solves k (programOf kind first operand) due (at begin rows) found c → Chooses net (lagsOf lab) found c
   chooses s = solved net (m .sound) (lagsOf lab) (m .labelled .legal) size s
 
   -- No lag is positive then, so no old value is to be carried.

@@ -1,22 +1,21 @@
 -- Operands one by one.
 --   source-chosen, source-cell    the two cases of `sourceAt`
---   appended-none, appended-more    one place further
---   appended-cut        all places are put
 --   operands-none, operands-more    one cell further
-use Prim.Native.Nat.{ℕ, _+_, _-_, _/_, _%_, _≤_, _<_}
+use Prim.Native.Nat.{ℕ, _+_, _/_, _%_, _≤_, _<_}
 use native.Mathlib.Omega.{arith}
 use native.Mathlib.Decide.{ℕ-discrete}
-use mathlib.Core.Path.{_≡_, refl, sym, subst, ap, _∙_}
+use mathlib.Core.Path.{_≡_, sym, subst, ap, _∙_}
 use mathlib.Core.Bool.{cond}
 use mathlib.Core.List.{List}
 use lib.Dec.{ltb}
-use lib.ListN.{length, set, length-set}
-use lib.Seq.{getD-set-same, getD-set-other}
+use lib.ListN.{length, set}
 use borrow.Author.Tests.{lt-ltb, le-ltb}
 use Rattle.theory.specs.Move.{sum}
 use Rattle.graph.specs.Columns.{at}
-use Rattle.choose.specs.inner.Sources.{sourceAt, Appended, widthAt, Operands}
-use Rattle.moves.proofs.Labels.{sum-more, base-none, sum-grows}
+use Rattle.graph.specs.inner.Lists.{Appended}
+use Rattle.choose.specs.inner.Sources.{sourceAt, widthAt, Operands}
+use Rattle.theory.proofs.numbers.Sums.{sum-more, sum-grows}
+use Rattle.moves.proofs.Labels.{base-none}
 use Rattle.graph.proofs.Fills.{fill-more}
 
 pub source-chosen : (t count a b : ℕ) → t < count → a ≡ cond (ltb t count) a b
@@ -24,28 +23,6 @@ source-chosen t count a b h = rw (lt-ltb t count h)
 
 pub source-cell : (t count a b : ℕ) → count ≤ t → b ≡ cond (ltb t count) a b
 source-cell t count a b h = rw (le-ltb t count h)
-
-module _ (f : ℕ → ℕ) where
-  pub appended-none : (old : List ℕ) (lo start : ℕ) → Appended f old old lo lo start
-  appended-none old lo start = record { rows = refl; kept = λ j h. refl; added = λ k h. absurd (let z : ⊥ = omega arith in z) }
-
-  pub appended-more : (old new : List ℕ) (lo k start n x : ℕ) → Appended f old new lo k start → lo ≤ k → n + lo ≡ start + k → n < length new → x ≡ f k
-      → Appended f old (set new n x) lo (k + 1) start
-  appended-more old new lo k start n x s l q h e = record {
-    rows = length-set new n x ∙ s .rows;
-    kept = λ j m. getD-set-other new n j x 0 (let z : ¬ (j ≡ n) = λ y. omega arith in z) ∙ s .kept j m;
-    added = λ i m. go i m (ℕ-discrete (lo + i) k);
-  }
-    where
-      go : (i : ℕ) → lo + i < k + 1 → Dec (lo + i ≡ k) → at (set new n x) (start + i) ≡ f (lo + i)
-      go i m (yes y) =
-          ap (at (set new n x)) (let z : start + i ≡ n = omega arith in z) ∙ getD-set-same new n x 0 h ∙ e ∙ ap f (sym y)
-      go i m (no y) = getD-set-other new n (start + i) x 0 (let z : ¬ (start + i ≡ n) = λ w. omega arith in z) ∙ s .added i (omega arith)
-
-  -- All of those up to hi are put, which may be none.
-  pub appended-cut : (old new : List ℕ) (lo hi k start n : ℕ) → Appended f old new lo k start → lo ≤ k → hi ≤ k → k ≤ lo + (hi - lo) → n + lo ≡ start + k
-      → (n ≡ start + (hi - lo)) × Appended f old new lo hi start
-  appended-cut old new lo hi k start n s l h u q = (omega arith, record { rows = s .rows; kept = s .kept; added = λ i m. s .added i (omega arith) })
 
 module _ (from ins begin counts base id code : List ℕ) where
   pub operands-none : (first operand : List ℕ) → at first 0 ≡ 0 → Operands from ins begin counts base id code 0 first operand

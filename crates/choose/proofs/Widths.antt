@@ -1,57 +1,21 @@
 -- There are at most 24,576 operands: at each clock a node has one cell, so an edge has one operand at each of 24 clocks.
---   sum-once            a sum over nodes that each stand once is at most the sum over all
---   few-operands        so the cells' widths add up to 24,576 at most
+--   few-operands        the cells' widths add up to 24,576 at most
 use Prim.Native.Nat.{ℕ, zero, suc, _+_, _*_, _-_, _/_, _≤_, _<_}
 use native.Mathlib.Omega.{arith}
 use native.Mathlib.Numerals.{add-one}
 use native.Mathlib.Decide.{ℕ-discrete, decLt}
 use mathlib.Core.Path.{_≡_, refl, sym, ap, ap₂, _∙_}
-use mathlib.Core.Bool.{cond}
 use mathlib.Core.Logic.{_⊎_, inl, inr, ⊎-elim}
 use mathlib.Core.List.{List}
-use borrow.Author.Tests.{eq-eqb, ne-eqb}
-use lib.Dec.{eqb}
 use Rattle.theory.specs.Move.{sum}
 use Rattle.graph.specs.Columns.{at}
 use Rattle.choose.specs.inner.Numbers.{Arranged, CellNumbered, CellsNumbered}
 use Rattle.choose.specs.inner.Sources.{widthAt}
-use Rattle.moves.proofs.Words.{sum-same}
-use Rattle.moves.proofs.Labels.{sum-more, sum-none, sum-grows}
-
-without : (ℕ → ℕ) → ℕ → ℕ → ℕ
-without g a v = cond (eqb v a) 0 (g v)
-
-without-here : (g : ℕ → ℕ) (a : ℕ) → without g a a ≡ 0
-unfolding without
-without-here g a = rw (eq-eqb a a refl)
-
-without-other : (g : ℕ → ℕ) (a v : ℕ) → ¬ (v ≡ a) → without g a v ≡ g v
-unfolding without
-without-other g a v h = rw (ne-eqb v a h)
+use Rattle.theory.proofs.numbers.Sums.{sum-none, sum-more, sum-grows, sum-once}
 
 sum-suc : (f : ℕ → ℕ) (n : ℕ) → sum f (suc n) ≡ sum f n + f n
 unfolding sum
 sum-suc f n = refl
-
-sum-drop : (g : ℕ → ℕ) (a n : ℕ) → a < n → sum g n ≡ sum (without g a) n + g a
-sum-drop g a zero h = absurd (let z : ⊥ = omega arith in z)
-sum-drop g a (suc n) h = go (ℕ-discrete a n) (λ l. sum-drop g a n l)
-  where
-    go : Dec (a ≡ n) → (a < n → sum g n ≡ sum (without g a) n + g a) → sum g (suc n) ≡ sum (without g a) (suc n) + g a
-    go (yes z) w =
-        let p = sum-same g (without g a) n (λ v l. sym (without-other g a v (λ e. omega arith))) in
-        let q : without g a n ≡ 0 = ap (without g a) (sym z) ∙ without-here g a in
-        omega (arith, sum-suc g n, sum-suc (without g a) n, p, q, ap g z)
-    go (no z) w = omega (arith, sum-suc g n, sum-suc (without g a) n, w (omega arith), without-other g a n (λ e. z (sym e)))
-
-pub sum-once : (order : List ℕ) (nodes p : ℕ) → ((q : ℕ) → q < p → at order q < nodes) → ((q r : ℕ) → q < r → r < p → ¬ (at order q ≡ at order r)) → (g : ℕ → ℕ)
-    → sum (λ q. g (at order q)) p ≤ sum g nodes
-sum-once order nodes zero inn one g = omega (arith, sum-none (λ q. g (at order q)))
-sum-once order nodes (suc p) inn one g =
-    let a = at order p in
-    let w = sum-once order nodes p (λ q l. inn q (omega arith)) (λ q r l m. one q r l (omega arith)) (without g a) in
-    let e = sum-same (λ q. g (at order q)) (λ q. without g a (at order q)) p (λ q l. sym (without-other g a (at order q) (one q p l (omega arith)))) in
-    omega (arith, w, e, sum-suc (λ q. g (at order q)) p, sum-drop g a nodes (inn p (omega arith)))
 
 module _ (lag : ℕ → ℕ) (order begin id code : List ℕ) (nodes edges cells : ℕ) (o : Arranged order nodes) (low : (v : ℕ) → v < nodes → lag v ≤ 24) (few : edges ≤ 1024)
     (n : CellsNumbered lag order nodes 24 0 cells id code) (rises : (v : ℕ) → v < nodes → at begin v ≤ at begin (v + 1)) (room : at begin nodes ≤ edges) where
@@ -69,7 +33,7 @@ module _ (lag : ℕ → ℕ) (order begin id code : List ℕ) (nodes edges cells
   part-low : (p : ℕ) → p ≤ nodes → part p ≤ 1024
   unfolding part
   part-low p h =
-      omega (arith, few, room, total nodes (omega arith), sum-once order nodes p (λ q l. o .nodes-only q (omega arith)) (λ q r l m. o .once q r l (omega arith)) wide)
+      omega (arith, few, room, total nodes (omega arith), sum-once (at order) nodes p (λ q l. o .nodes-only q (omega arith)) (λ q r l m. o .once q r l (omega arith)) wide)
 
   width-is : (i : ℕ) (h : i < cells) → widthAt begin code i ≡ wide (at order (n .each i h .place))
   unfolding wide

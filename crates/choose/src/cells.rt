@@ -1,8 +1,11 @@
 // The program of a moved netlist: a cell for each node of positive lag and each clock below its lag.
 // Private to the crate: `choose` puts them together.
+use crate::LAGS;
+use crate::STRIDE;
+use graph::NODES;
 use graph::by_rank;
+use lags::up_of;
 use moves::bytes_of;
-use moves::up_of;
 use netlist::Netlist;
 ghost use mathlib.Core.Path.{_≡_};
 ghost use mathlib.Core.Bool.{cond};
@@ -11,12 +14,19 @@ ghost use lib.Dec.{ltb};
 ghost use lib.ListN.{length};
 ghost use Rattle.theory.specs.Move.{sum};
 ghost use Rattle.graph.specs.Columns.{at};
+ghost use Rattle.graph.specs.inner.Lists.{Appended};
 ghost use Rattle.choose.specs.inner.Numbers.{lagAt, Arranged, CellsNumbered};
-ghost use Rattle.choose.specs.inner.Sources.{sourceAt, SourceRows, Appended, widthAt, OperandRows, Operands};
+ghost use Rattle.choose.specs.inner.Sources.{sourceAt, SourceRows, widthAt, OperandRows, Operands};
 ghost use Rattle.moves.specs.inner.Labels.{Labelled, Counts};
 ghost use Rattle.theory.specs.Walk.{Loop};
 ghost use Rattle.graph.specs.inner.Sort.{Ordered};
 ghost use Rattle.netlist.specs.Net.{graphOf, regsOf};
+
+// As codes are held.
+const STRIDE_OF_CODES: u16 = STRIDE as u16;
+
+// An operand below 32 is a chosen bit, and the others are cells.
+const BITS: u16 = 32;
 
 // The cells of clock t are numbered from `start` on, in the order of the nodes. The number after them.
 fn number_clock(
@@ -39,7 +49,7 @@ fn number_clock(
     while p < nodes {
         let v = order[p] as usize;
         if clock < up_of(lab[v]) {
-            let spot = v * 32 + t;
+            let spot = v * STRIDE + t;
             id[spot] = n as u16;
             code[n] = spot as u16;
             n += 1;
@@ -64,7 +74,7 @@ pub fn number_cells(
 {
     let mut n = 0;
     let mut t = 0;
-    while t < 24 {
+    while t < LAGS {
         n = number_clock(order, lab, nodes, t, n, id, code);
         t += 1;
     }
@@ -79,7 +89,7 @@ pub fn put_kinds(kind: &[u8], code: &[u16], cells: usize, kinds: &mut [u8])
 {
     let mut i = 0;
     while i < cells {
-        let v = (code[i] / 32) as usize;
+        let v = (code[i] / STRIDE_OF_CODES) as usize;
         kinds[i] = kind[v];
         i += 1;
     }
@@ -94,8 +104,8 @@ fn source_of(base: u32, count: u32, from: u16, t: u32, id: &[u16]) -> u16
     if t < count {
         (base + t) as u16
     } else {
-        let spot = (from as usize) * 32 + ((t - count) as usize);
-        32 + id[spot]
+        let spot = (from as usize) * STRIDE + ((t - count) as usize);
+        BITS + id[spot]
     }
 }
 
@@ -150,8 +160,8 @@ pub fn operands_of(
     let mut n = 0;
     let mut i = 0;
     while i < cells {
-        let v = (code[i] / 32) as usize;
-        let t = (code[i] % 32) as u32;
+        let v = (code[i] / STRIDE_OF_CODES) as usize;
+        let t = (code[i] % STRIDE_OF_CODES) as u32;
         let lo = begin[v] as usize;
         let hi = begin[v + 1] as usize;
         n = append_sources(from, ins, counts, base, id, t, lo, hi, n, operand);
@@ -161,7 +171,7 @@ pub fn operands_of(
 }
 
 // The nodes in evaluation order of the moved netlist.
-pub fn order_of(net: Netlist, lab: &[u32], counts: &[u32]) -> [u16; 512]
+pub fn order_of(net: Netlist, lab: &[u32], counts: &[u32]) -> [u16; NODES]
     requires { ⌜ Labelled net (now lab) × Counts net (now lab) (now counts) × (net .edges ≤ length (now counts)) ⌝ }
     requires { ⌜ ((e : ℕ) → e < net .edges → at (now counts) e ≤ 32) ⌝ }
     requires { ⌜ ¬ Loop (graphOf net) (regsOf net .count) ⌝ }

@@ -1,20 +1,29 @@
 // The choice of start values: the moved netlist's cells as a program, and the search through it.
 // Retiming comes here with the labels of the least retiming.
+use crate::CELLS;
+use crate::CODES;
+use crate::Choice;
+use crate::DUES;
+use crate::OPERANDS;
+use crate::ROWS;
 use crate::cells::number_cells;
 use crate::cells::operands_of;
 use crate::cells::order_of;
 use crate::cells::put_kinds;
 use crate::dues::dues_of;
+use crate::words::words_of;
+use graph::EDGES;
+use graph::NODES;
 use graph::sort_by;
 use netlist::Netlist;
-use search::Choice;
 use solve::solve;
 ghost use mathlib.Core.Path.{_≡_};
 ghost use lib.ListN.{length};
 ghost use Rattle.graph.specs.Columns.{at};
 ghost use Rattle.moves.specs.inner.Labels.{lagsOf};
-ghost use Rattle.moves.specs.inner.Moving.{Moving};
+ghost use Rattle.moves.specs.inner.Moving.{Choosing};
 ghost use Rattle.choose.specs.inner.Wires.{Chooses, Wirable, Wires, Standing};
+ghost use Rattle.choose.specs.inner.Chosen.{Chosen};
 
 // The operands of the cells: those of a cell are the edges that enter its node, in the order of the edges.
 fn wire(
@@ -33,8 +42,8 @@ fn wire(
 {
     let nodes = net.nodes as usize;
     let edges = net.edges as usize;
-    let mut ins = [0u16; 1024];
-    let mut begin = [0u16; 513];
+    let mut ins = [0u16; EDGES];
+    let mut begin = [0u16; NODES + 1];
     sort_by(&net.to, edges, nodes, &mut ins, &mut begin);
     operands_of(
         &net.from,
@@ -68,13 +77,13 @@ fn compile(
     due: &mut [u16],
     begin: &mut [u16],
 ) -> Compiled
-    requires { ⌜ Moving net (now lab) (now counts) (now base) (at (now base) (net .edges)) ⌝ }
+    requires { ⌜ Choosing net (now lab) (now counts) (now base) (at (now base) (net .edges)) ⌝ }
     requires { ⌜ (length (now kind) ≡ 12288) × (length (now first) ≡ 12289) × (length (now operand) ≡ 24576) × (length (now due) ≡ 24576) × (length (now begin) ≡ 5121) ⌝ }
     ensures { λ r. ⌜ Standing net (lagsOf (now (lab .entry))) (at (now (base .entry)) (net .edges)) (r .cells) (r .rows) (now (kind .exit)) (now (first .exit)) (now (operand .exit)) (now (due .exit)) (now (begin .exit)) ⌝ }
 {
     let order = order_of(net, lab, counts);
-    let mut id = [0u16; 16384];
-    let mut code = [0u16; 12288];
+    let mut id = [0u16; CODES];
+    let mut code = [0u16; CELLS];
     let cells = number_cells(&order, lab, net.nodes as usize, &mut id, &mut code);
     put_kinds(&net.kind, &code, cells, kind);
     wire(net, counts, base, &id, &code, cells, first, operand);
@@ -84,21 +93,21 @@ fn compile(
 
 // The smallest choice that carries the start, or that none does.
 // Where nothing is chosen no lag is positive, so nothing is to be carried, and the empty choice is the only one.
-pub fn choose(net: Netlist, lab: &[u32], counts: &[u32], base: &[u32], k: u32) -> Choice
-    requires { ⌜ Moving net (now lab) (now counts) (now base) k ⌝ }
+fn best(net: Netlist, lab: &[u32], counts: &[u32], base: &[u32], k: u32) -> search::Choice
+    requires { ⌜ Choosing net (now lab) (now counts) (now base) k ⌝ }
     ensures { λ r. ⌜ Chooses net (lagsOf (now (lab .entry))) (r .found) (r .choice) ⌝ }
 {
     if k == 0 {
-        return Choice {
+        return search::Choice {
             found: true,
             choice: 0,
         };
     }
-    let mut kind = [0u8; 12288];
-    let mut first = [0u16; 12289];
-    let mut operand = [0u16; 24576];
-    let mut due = [0u16; 24576];
-    let mut begin = [0u16; 5121];
+    let mut kind = [0u8; CELLS];
+    let mut first = [0u16; CELLS + 1];
+    let mut operand = [0u16; OPERANDS];
+    let mut due = [0u16; DUES];
+    let mut begin = [0u16; ROWS + 1];
     let made = compile(
         net,
         lab,
@@ -113,4 +122,18 @@ pub fn choose(net: Netlist, lab: &[u32], counts: &[u32], base: &[u32], k: u32) -
     let cells = made.cells;
     let rows = made.rows;
     solve(&kind, &first, &operand, cells, k, &mut due, &begin, rows)
+}
+
+// The chosen start values: those of the smallest choice that carries the start.
+pub fn choose(net: Netlist, lab: &[u32], counts: &[u32], base: &[u32], k: u32) -> Choice
+    requires { ⌜ Choosing net (now lab) (now counts) (now base) k ⌝ }
+    ensures { λ r. ⌜ Chosen net (lagsOf (now (lab .entry))) (r .found) (r .words) ⌝ }
+{
+    let edges = net.edges as usize;
+    let c = best(net, lab, counts, base, k);
+    let words = words_of(base, edges, k, c.choice);
+    Choice {
+        found: c.found,
+        words,
+    }
 }

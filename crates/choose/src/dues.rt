@@ -1,17 +1,20 @@
 // What the moved netlist's cells must give: the old start values that it has to carry. A due is a number, 2 i + x: cell i must give x.
 // Private to the crate: `choose` puts them together.
-use graph::sort_by;
-use moves::up_of;
+use graph::EDGES;
+use graph::NODES;
+use graph::edges_along;
+use lags::up_of;
 use netlist::Netlist;
 ghost use mathlib.Core.Path.{_≡_};
 ghost use Prim.Native.Nat.{ℕ, _+_, _*_, _-_, _≤_, _<_, min};
 ghost use lib.ListN.{length};
 ghost use Rattle.graph.specs.Columns.{at};
+ghost use Rattle.graph.specs.inner.Sort.{EachEdge};
 ghost use Rattle.search.specs.inner.Program.{Owes};
 ghost use Rattle.moves.specs.inner.Labels.{Labelled};
 ghost use Rattle.choose.specs.inner.Numbers.{lagAt, Arranged};
-ghost use Rattle.choose.specs.inner.Sources.{Appended};
-ghost use Rattle.choose.specs.inner.Dues.{cellAt, EachEdge, Dues, dueAt, Celled, DuesTo};
+ghost use Rattle.graph.specs.inner.Lists.{Appended};
+ghost use Rattle.choose.specs.inner.Dues.{cellAt, Dues, dueAt, Celled, DuesTo};
 
 // k - r, and 0 where r is larger.
 fn less(k: u32, r: u32) -> u32
@@ -57,50 +60,6 @@ fn append_dues(
     n
 }
 
-// The place of each node in an order. (Only that it is a place is promised: whatever the order, the same values are due.)
-fn places_of(order: &[u16], nodes: usize) -> [u16; 512]
-    requires { ⌜ Arranged (now order) nodes ⌝ }
-    ensures { λ r. ⌜ ((v : ℕ) → v < nodes → at r v < nodes) ⌝ }
-{
-    let mut place = [0u16; 512];
-    let mut p = 0;
-    while p < nodes {
-        let v = order[p] as usize;
-        place[v] = p as u16;
-        p += 1;
-    }
-    place
-}
-
-// For each edge the place of the node that it leaves.
-fn keys_of(from: &[u16], edges: usize, place: &[u16]) -> [u16; 1024]
-    requires { ⌜ (edges ≤ 1024) × (edges ≤ length (now from)) × ((e : ℕ) → e < edges → at (now from) e < length (now place)) ⌝ }
-    ensures { λ r. ⌜ ((e : ℕ) → e < edges → at r e ≡ at (now (place .entry)) (at (now (from .entry)) e)) ⌝ }
-{
-    let mut key = [0u16; 1024];
-    let mut e = 0;
-    while e < edges {
-        let u = from[e] as usize;
-        key[e] = place[u];
-        e += 1;
-    }
-    key
-}
-
-// The edges in the evaluation order of the nodes that they leave.
-fn edges_along(from: &[u16], order: &[u16], nodes: usize, edges: usize) -> [u16; 1024]
-    requires { ⌜ Arranged (now order) nodes × (edges ≤ 1024) × (edges ≤ length (now from)) ⌝ }
-    requires { ⌜ ((e : ℕ) → e < edges → at (now from) e < nodes) ⌝ }
-    ensures { λ r. ⌜ EachEdge r edges ⌝ }
-{
-    let place = places_of(order, nodes);
-    let key = keys_of(from, edges, &place);
-    let mut along = [0u16; 1024];
-    let mut begin = [0u16; 513];
-    sort_by(&key, edges, nodes, &mut along, &mut begin);
-    along
-}
-
 // The largest lag.
 fn top_of(lab: &[u32], nodes: usize) -> u32
     requires { ⌜ (nodes ≤ 512) × (nodes ≤ length (now lab)) × ((v : ℕ) → v < nodes → lagAt (now lab) v ≤ 24) ⌝ }
@@ -118,7 +77,8 @@ fn top_of(lab: &[u32], nodes: usize) -> u32
     top
 }
 
-// One run of clocks, from `low` up to `high`, of every edge: a row for each edge, put from place `start` of the dues and row `first` on. The place after it.
+// One run of clocks, from `low` up to `high`, of every edge: a row for each edge that has something due in it, put after the first `before` rows. How many rows there
+// are then. (The search goes through all rows once for each level, so a row with nothing in it would cost.)
 fn put_run(
     net: Netlist,
     lab: &[u32],
@@ -126,38 +86,35 @@ fn put_run(
     id: &[u16],
     low: u32,
     high: u32,
-    first: usize,
-    start: usize,
+    before: usize,
     due: &mut [u16],
     begin: &mut [u16],
 ) -> usize
     requires { ⌜ Labelled net (now lab) × EachEdge (now along) (net .edges) × Celled (lagAt (now lab)) (net .nodes) 12288 (now id) ⌝ }
-    requires { ⌜ (low ≤ high) × (high ≤ 24) × (first ≤ 4096) × (length (now along) ≡ 1024) × (length (now due) ≡ 24576) × (length (now begin) ≡ 5121) ⌝ }
-    requires { ⌜ DuesTo net (lagAt (now lab)) (now id) (now along) low low 0 first (now due) (now begin) start ⌝ }
-    ensures { λ r. ⌜ DuesTo net (lagAt (now (lab .entry))) (now (id .entry)) (now (along .entry)) high high 0 (first + net .edges) (now (due .exit)) (now (begin .exit)) r ⌝ }
+    requires { ⌜ (low ≤ high) × (high ≤ 24) × (before ≤ 4096) × (length (now along) ≡ 1024) × (length (now due) ≡ 24576) × (length (now begin) ≡ 5121) ⌝ }
+    requires { ⌜ DuesTo net (lagAt (now lab)) (now id) (now along) low low 0 before (now due) (now begin) (at (now begin) before) ⌝ }
+    ensures { λ r. ⌜ r ≤ before + net .edges ⌝ }
+    ensures { λ r. ⌜ DuesTo net (lagAt (now (lab .entry))) (now (id .entry)) (now (along .entry)) high high 0 r (now (due .exit)) (now (begin .exit)) (at (now (begin .exit)) r) ⌝ }
 {
     let edges = net.edges as usize;
-    let mut n = start;
+    let mut rows = before;
+    let mut n = begin[before] as usize;
     let mut p = 0;
     while p < edges {
         let e = along[p] as usize;
         let v = net.from[e] as usize;
         let lag = up_of(lab[v]);
-        n = append_dues(
-            v,
-            lag,
-            net.count[e] as u32,
-            net.start[e],
-            low,
-            high,
-            id,
-            n,
-            due,
-        );
+        let count = net.count[e] as u32;
+        let values = net.start[e];
+        let end = append_dues(v, lag, count, values, low, high, id, n, due);
+        if n < end {
+            rows += 1;
+            begin[rows] = end as u16;
+            n = end;
+        }
         p += 1;
-        begin[first + p] = n as u16;
     }
-    n
+    rows
 }
 
 // What is due, in rows: an edge's moved clocks in runs of 1, 2, 4, … clocks, the first runs of all edges first, so that an early clock of one edge does not wait for
@@ -181,12 +138,10 @@ pub fn dues_of(
     let top = top_of(lab, nodes);
     begin[0] = 0;
     let mut rows = 0;
-    let mut n = 0;
     let mut low = 0;
     while low < top {
         let high = least(2 * low + 1, 24);
-        n = put_run(net, lab, &along, id, low, high, rows, n, due, begin);
-        rows += edges;
+        rows = put_run(net, lab, &along, id, low, high, rows, due, begin);
         low = high;
     }
     rows

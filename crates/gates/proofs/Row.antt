@@ -1,5 +1,4 @@
 -- A row of gates, a turn at a time.
---   fill-with           a list that a loop fills, one element further, whatever is said of each
 --   bits-set            a bit put among bits
 --   seen-bits, placed-seen    what a gate sees is bits, and in place
 --   evaluated-more, evaluated-length, evaluated-bits    one gate more; as many signals; bits
@@ -40,16 +39,6 @@ placed-seen truth first list base old sig v p e b = rw add-one record {
   narrow = p .narrow;
   signals = λ j l h. (omega (arith, p .signals j l h), b (at list j));
 }
-
--- ── A row that is filled ────────────────────────────────────────────────────────────────────
-
-pub fill-with : (P : ℕ → ℕ → Type 0) (xs : List ℕ) (v t : ℕ) → v < length xs → P v t → ((k : ℕ) → k < v → P k (at xs k))
-    → (k : ℕ) → k < v + 1 → P k (at (set xs v t) k)
-fill-with P xs v t h p w k l = go (ℕ-discrete k v)
-  where
-    go : Dec (k ≡ v) → P k (at (set xs v t) k)
-    go (yes z) = subst (λ x. P x (at (set xs v t) x)) (sym z) (subst (P v) (sym (getD-set-same xs v t 0 h)) p)
-    go (no z) = subst (P k) (sym (getD-set-other xs v k t 0 z)) (w k (omega arith))
 
 -- ── The signals ─────────────────────────────────────────────────────────────────────────────
 

@@ -3,13 +3,10 @@
 --   bit word k          bit k of a word, bit 0 the lowest
 --   columnGraph         the theory's graph of the columns
 --   fan-in G v          how many edges enter v
-use mathlib.Core.Path.{_≡_}
-use mathlib.Core.Bool.{Bool, true, false}
 use mathlib.Core.List.{List}
-use Prim.Native.Nat.{ℕ, _/_, _%_, _^_, _<_, _≤_}
+use Prim.Native.Nat.{ℕ, _/_, _%_, _^_}
 use lib.ListN.{length, getD}
 use Rattle.theory.specs.Graph.{Graph}
-use Rattle.theory.specs.Walk.{Walk}
 use Rattle.theory.specs.Clock.{gather}
 
 abbrev pub at : List ℕ → ℕ → ℕ

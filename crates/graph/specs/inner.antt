@@ -5,4 +5,6 @@ pub mod Sweeps
 pub mod Marks
 -- Items by key, and the evaluation order.
 pub mod Sort
+-- Lists that loops fill.
+pub mod Lists
 pub mod Laid

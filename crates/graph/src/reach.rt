@@ -1,5 +1,7 @@
 // Three questions about a graph: how many edges enter each node, whether there is a loop without a register, which nodes are reached.
 // Required: columns that are long enough, ends of edges that are nodes. Reading makes sure of both.
+use crate::EDGES;
+use crate::NODES;
 use crate::chains::settle;
 use crate::sort::count_keys;
 ghost use mathlib.Core.Path.{_≡_};
@@ -13,11 +15,11 @@ ghost use Rattle.graph.specs.inner.Laid.{From, Told, Laid};
 ghost use Rattle.graph.specs.inner.Marks.{Above, markOf};
 
 // How many edges enter each node.
-pub fn fan_ins<'a>(from: &'a [u16], to: &'a [u16], nodes: usize, edges: usize) -> [u16; 512]
+pub fn fan_ins<'a>(from: &'a [u16], to: &'a [u16], nodes: usize, edges: usize) -> [u16; NODES]
     requires { ⌜ Laid nodes edges (now from) (now to) ⌝ }
     ensures { λ r. ⌜ ((kind : List ℕ) (v : ℕ) → v < nodes → at r v ≡ fan-in (columnGraph nodes edges kind (now (from .entry)) (now (to .entry))) v) ⌝ }
 {
-    let mut ins = [0u16; 512];
+    let mut ins = [0u16; NODES];
     count_keys(to, edges, nodes, &mut ins);
     ins
 }
@@ -48,9 +50,9 @@ pub fn looped<'a>(
     requires { ⌜ Laid nodes edges (now from) (now to) × (edges ≤ length (now count)) ⌝ }
     ensures { λ r. ⌜ ((kind : List ℕ) → Told r (Loop (columnGraph nodes edges kind (now (from .entry)) (now (to .entry))) (at (now (count .entry))))) ⌝ }
 {
-    let ones = [1u32; 512];
-    let zeros = [0u32; 512];
-    let mut time = [0u32; 512];
+    let ones = [1u32; NODES];
+    let zeros = [0u32; NODES];
+    let mut time = [0u32; NODES];
     let most = nodes as u32;
     settle(
         from,
@@ -74,11 +76,11 @@ fn mark(kind: u8, pin: u8) -> u32
 }
 
 // The marks of all nodes.
-fn marks(kind: &[u8], pin: u8, nodes: usize) -> [u32; 512]
+fn marks(kind: &[u8], pin: u8, nodes: usize) -> [u32; NODES]
     requires { ⌜ (nodes ≤ length (now kind)) × (nodes ≤ 512) ⌝ }
     ensures { λ r. ⌜ ((v : ℕ) → v < nodes → at r v ≡ markOf (at (now (kind .entry)) v) pin) ⌝ }
 {
-    let mut own = [0u32; 512];
+    let mut own = [0u32; NODES];
     let mut v = 0;
     while v < nodes {
         own[v] = mark(kind[v], pin);
@@ -96,14 +98,14 @@ pub fn reached<'a>(
     to: &'a [u16],
     nodes: usize,
     edges: usize,
-) -> [u32; 512]
+) -> [u32; NODES]
     requires { ⌜ Laid nodes edges (now from) (now to) × (nodes ≤ length (now kind)) ⌝ }
     ensures { λ r. ⌜ ((v : ℕ) → v < nodes → Told (eqb (at r v) 1) (From (columnGraph nodes edges (now (kind .entry)) (now (from .entry)) (now (to .entry))) pin v)) ⌝ }
 {
     let own = marks(kind, pin, nodes);
-    let none = [0u8; 1024];
-    let zeros = [0u32; 512];
-    let mut time = [0u32; 512];
+    let none = [0u8; EDGES];
+    let zeros = [0u32; NODES];
+    let mut time = [0u32; NODES];
     settle(from, to, &none, nodes, edges, &own, &zeros, 0, &mut time);
     time
 }

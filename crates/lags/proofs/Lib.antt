@@ -4,3 +4,7 @@ pub mod Laws
 pub mod Starts
 -- Rounds, and how the search ends.
 pub mod Search
+-- Labels and times together: the columns, a sweep, and how the climb ends.
+pub mod Wires
+pub mod Sweeps
+pub mod Found

@@ -60,7 +60,7 @@ module _ (net : Netlist) (s : Sure net) where
       edge-fits (net .nodes) (graphOf net .kind) (at (net .from) e) (at (net .to) e) (at (net .count) e) (at (net .start) e) (s .fit .edge e h) .2
 
   -- An input reaches v. A walk between the two has fewer edges than there are nodes, 511 at most, and 32 registers on each at most.
-  near-pin : (v : ℕ) → v < net .nodes → ¬ Pin (graphOf net) v → FromPin (graphOf net) (regsOf net .count) v 16384
+  pub near-pin : (v : ℕ) → v < net .nodes → ¬ Pin (graphOf net) v → FromPin (graphOf net) (regsOf net .count) v 16384
   near-pin v h p =
       let f = s .fed v h p in
       let q = short-walk (fit-wired net (s .fit)) (f .walk) in

@@ -2,12 +2,14 @@
 // What is required, `Sure`, is true of every netlist that reads (proofs/Laws, `read-sure`).
 use crate::Labels;
 use crate::start::first_labels;
+use graph::EDGES;
+use graph::NODES;
 use graph::any_above;
-use graph::edges_by_rank;
+use graph::edges_along;
 use graph::settle_along;
 use netlist::Netlist;
 ghost use mathlib.Core.Path.{_≡_};
-ghost use Prim.Native.Nat.{_≤_, _<_};
+ghost use Prim.Native.Nat.{ℕ, _≤_, _<_};
 ghost use lib.ListN.{length};
 ghost use Rattle.graph.specs.Columns.{at};
 ghost use Rattle.graph.specs.inner.Laid.{Told};
@@ -24,11 +26,11 @@ fn working(delay: u8, derate: u8) -> u32
 }
 
 // The working delays.
-fn working_delays(delay: &[u8], derate: u8, nodes: usize) -> [u32; 512]
+pub fn working_delays(delay: &[u8], derate: u8, nodes: usize) -> [u32; NODES]
     requires { ⌜ (nodes ≤ length (now delay)) × (nodes ≤ 512) ⌝ }
     ensures { λ r. ⌜ Delayed (now (delay .entry)) derate nodes r ⌝ }
 {
-    let mut out = [0u32; 512];
+    let mut out = [0u32; NODES];
     let mut v = 0;
     while v < nodes {
         out[v] = working(delay[v], derate);
@@ -38,24 +40,24 @@ fn working_delays(delay: &[u8], derate: u8, nodes: usize) -> [u32; 512]
 }
 
 // The edges in an order in which the sweeps of a round have little to do.
-fn order_of(net: Netlist) -> [u16; 1024]
-    requires { ⌜ Sure net ⌝ }
+fn order_of(net: Netlist, order: &[u16]) -> [u16; EDGES]
+    requires { ⌜ Sure net × (net .nodes ≤ length (now order)) × ((p : ℕ) → p < net .nodes → at (now order) p < net .nodes) ⌝ }
     ensures { λ r. ⌜ EdgeList r (net .edges) ⌝ }
 {
     let nodes = net.nodes as usize;
     let edges = net.edges as usize;
-    edges_by_rank(&net.from, &net.to, &net.count, nodes, edges)
+    edges_along(&net.from, order, nodes, edges)
 }
 
 // The arrival times under the labels.
-fn arrivals(net: Netlist, order: &[u16], delay: &[u32], lab: &[u32], period: u32) -> [u32; 512]
+fn arrivals(net: Netlist, order: &[u16], delay: &[u32], lab: &[u32], period: u32) -> [u32; NODES]
     requires { ⌜ Sure net × (period < 1000000) ⌝ }
     requires { ⌜ Delayed (net .delay) (net .derate) (net .nodes) (now delay) × (net .nodes ≤ length (now delay)) ⌝ }
     requires { ⌜ Low (net .nodes) (now lab) × (net .nodes ≤ length (now lab)) ⌝ }
     requires { ⌜ EdgeList (now order) (net .edges) ⌝ }
     ensures { λ r. ⌜ Arrived net period (now (lab .entry)) r ⌝ }
 {
-    let mut time = [0u32; 512];
+    let mut time = [0u32; NODES];
     let nodes = net.nodes as usize;
     let edges = net.edges as usize;
     settle_along(
@@ -103,17 +105,18 @@ fn raise(time: &[u32], nodes: usize, period: u32, lab: &mut [u32])
 }
 
 // The labels of the least retiming, or that no legal retiming meets the period.
-pub fn least(net: Netlist, period: u32) -> Labels
+pub fn by_rounds(net: Netlist, order: &[u16], period: u32) -> Labels
     requires { ⌜ Sure net × (period < 1000000) ⌝ }
+    requires { ⌜ (net .nodes ≤ length (now order)) × ((p : ℕ) → p < net .nodes → at (now order) p < net .nodes) ⌝ }
     ensures { λ r. ⌜ Leasts net period r ⌝ }
 {
     let nodes = net.nodes as usize;
     let delay = working_delays(&net.delay, net.derate, nodes);
-    let order = order_of(net);
+    let along = order_of(net, order);
     let mut lab = first_labels(net);
     let mut round = 0;
     while round < nodes {
-        let time = arrivals(net, &order, &delay, &lab, period);
+        let time = arrivals(net, &along, &delay, &lab, period);
         if late_pin(&net.kind, &time, nodes, period) {
             return Labels { found: false, lab };
         }
@@ -123,7 +126,7 @@ pub fn least(net: Netlist, period: u32) -> Labels
         raise(&time, nodes, period, &mut lab);
         round += 1;
     }
-    let last = arrivals(net, &order, &delay, &lab, period);
+    let last = arrivals(net, &along, &delay, &lab, period);
     let found = !any_above(&last, nodes, period);
     Labels { found, lab }
 }

@@ -1,5 +1,7 @@
 // The labels to start from: 16,384 less the fewest registers between a pin and the node. No legal retiming has a lower one.
 // What is required, `Sure`, is true of every netlist that reads (proofs/Laws, `read-sure`).
+use crate::label::BIAS;
+use graph::NODES;
 use netlist::Netlist;
 ghost use mathlib.Core.Path.{_≡_};
 ghost use Prim.Native.Nat.{ℕ, _+_, _≤_, _<_};
@@ -7,9 +9,6 @@ ghost use lib.ListN.{length};
 ghost use Rattle.graph.specs.Columns.{at};
 ghost use Rattle.lags.specs.inner.Lags.{Sure};
 ghost use Rattle.lags.specs.inner.Starts.{startOf, Far, Shortened, Measured, FirstLabels};
-
-// Above every distance from a pin: 511 edges of 32 registers are 16,352.
-const BIAS: u32 = 16384;
 
 // A node's distance to start from: 0 at a pin, elsewhere more than any.
 fn start_of(kind: u8) -> u32
@@ -19,11 +18,11 @@ fn start_of(kind: u8) -> u32
 }
 
 // The distances to start from.
-fn start_far(kind: &[u8], nodes: usize) -> [u32; 512]
+fn start_far(kind: &[u8], nodes: usize) -> [u32; NODES]
     requires { ⌜ (nodes ≤ length (now kind)) × (nodes ≤ 512) ⌝ }
     ensures { λ r. ⌜ ((v : ℕ) → v < nodes → at r v ≡ startOf (at (now (kind .entry)) v)) ⌝ }
 {
-    let mut far = [0u32; 512];
+    let mut far = [0u32; NODES];
     let mut v = 0;
     while v < nodes {
         far[v] = start_of(kind[v]);
@@ -54,7 +53,7 @@ fn shorten(net: Netlist, far: &mut [u32]) -> u32
 }
 
 // The fewest registers between a pin and each node.
-fn distances(net: Netlist) -> [u32; 512]
+fn distances(net: Netlist) -> [u32; NODES]
     requires { ⌜ Sure net ⌝ }
     ensures { λ r. ⌜ Measured net r ⌝ }
 {
@@ -67,12 +66,12 @@ fn distances(net: Netlist) -> [u32; 512]
 }
 
 // The labels of these distances.
-fn labels_from(far: &[u32], nodes: usize) -> [u32; 512]
+fn labels_from(far: &[u32], nodes: usize) -> [u32; NODES]
     requires { ⌜ (nodes ≤ length (now far)) × (nodes ≤ 512) ⌝ }
     requires { ⌜ ((v : ℕ) → v < nodes → at (now far) v ≤ 16384) ⌝ }
     ensures { λ r. ⌜ ((v : ℕ) → v < nodes → at r v + at (now (far .entry)) v ≡ 16384) ⌝ }
 {
-    let mut lab = [0u32; 512];
+    let mut lab = [0u32; NODES];
     let mut v = 0;
     while v < nodes {
         lab[v] = BIAS - far[v];
@@ -82,7 +81,7 @@ fn labels_from(far: &[u32], nodes: usize) -> [u32; 512]
 }
 
 // The labels to start from.
-pub fn first_labels(net: Netlist) -> [u32; 512]
+pub fn first_labels(net: Netlist) -> [u32; NODES]
     requires { ⌜ Sure net ⌝ }
     ensures { λ r. ⌜ FirstLabels net r ⌝ }
 {

@@ -3,10 +3,13 @@
 use libc::STDIN_FILENO;
 use libc::STDOUT_FILENO;
 
+// "a text of up to 32,768 bytes (more decides nothing)".
+const LONGEST: usize = 32768;
+
 fn main() {
-    let mut text = [0u8; 32768];
+    let mut text = [0u8; LONGEST];
     let n = io::read_full(STDIN_FILENO, &mut text);
-    let listing = list::listing(&text[..n]);
+    let listing = printing::listing(&text[..n]);
     let bytes = listing.bytes;
     io::write_all(STDOUT_FILENO, &bytes[..listing.len]);
 }

@@ -2,7 +2,7 @@
 --   count-alike, chosen-alike    the new counts, and how many values are chosen
 --   regs-alike          the retimed registers
 --   legal-alike, least-alike, best-alike, no-start-alike    what is legal, least, taken or without a start stays so
-use Prim.Native.Nat.{ℕ, _+_, _<_, _≤_}
+use Prim.Native.Nat.{ℕ, _+_, _<_}
 use native.Mathlib.Omega.{arith}
 use mathlib.Core.Path.{_≡_, refl, sym, ap, ap₂, _∙_}
 use mathlib.Core.Bool.{Bool, true, false}
@@ -14,11 +14,10 @@ use Rattle.theory.specs.Walk.{Walk, one, more, registers}
 use Rattle.theory.specs.Clock.{Regs, value}
 use Rattle.theory.specs.inner.Registers.{SameRegs}
 use Rattle.theory.specs.Lag.{up, down, newCount, Legal, Least}
-use Rattle.theory.specs.Move.{moveIf, move, quiet, sum, chosenOn, chosenIn, digit, choiceOf, Best}
+use Rattle.theory.specs.Move.{moveIf, move, quiet, chosenIn, digit, choiceOf, Best}
 use Rattle.theory.specs.Retimer.{Sound, NoStart, retimed}
 use Rattle.theory.proofs.moves.Choose.{choice-number}
-use Rattle.theory.proofs.moves.Best.{choice-bit, number-lags}
-use Rattle.moves.proofs.Words.{sum-same}
+use Rattle.theory.proofs.moves.Best.{choice-bit, lag-src, lag-dst, chosen-before, number-lags}
 
 -- A walk's registers depend on its edges' counts.
 pub registers-alike : {G : Graph} {u v : ℕ} (count count′ : ℕ → ℕ) → ((e : ℕ) → e < G .edges → count e ≡ count′ e) → (p : Walk G u v)
@@ -28,33 +27,24 @@ registers-alike count count′ h (one l) = refl
 registers-alike count count′ h (more e l p) = ap₂ _+_ (registers-alike count count′ h p) (h e l)
 
 module _ (gate : ℕ → List ℕ → ℕ) (G : Graph) (w : Wired G) (R : Regs) (r q : ℕ → ℤ) (same : (v : ℕ) → v < G .nodes → r v ≡ q v) where
-  at-src : (e : ℕ) → e < G .edges → r (G .src e) ≡ q (G .src e)
-  at-src e h = same (G .src e) (w .src-in e h)
-
-  at-dst : (e : ℕ) → e < G .edges → r (G .dst e) ≡ q (G .dst e)
-  at-dst e h = same (G .dst e) (w .dst-in e h)
-
   pub count-alike : (e : ℕ) → e < G .edges → newCount G (R .count) r e ≡ newCount G (R .count) q e
-  count-alike e h = rw (at-src e h, at-dst e h)
-
-  sum-alike : (n : ℕ) → n ≤ G .edges → sum (chosenOn G (R .count) r) n ≡ sum (chosenOn G (R .count) q) n
-  sum-alike n h = sum-same (chosenOn G (R .count) r) (chosenOn G (R .count) q) n (λ e l. rw (at-src e (omega arith), at-dst e (omega arith)))
+  count-alike e h = rw (lag-src G w R r q same e h, lag-dst G w R r q same e h)
 
   pub chosen-alike : chosenIn G (R .count) r ≡ chosenIn G (R .count) q
-  chosen-alike = sum-alike (G .edges) (omega arith)
+  chosen-alike = chosen-before G w R r q same (G .edges) (omega arith)
 
   choice-alike : (c e t : ℕ) → e < G .edges → choiceOf G (R .count) r c e t ≡ choiceOf G (R .count) q c e t
-  choice-alike c e t h = ap₂ (λ n p. digit n c (p + t)) chosen-alike (sum-alike e (omega arith))
+  choice-alike c e t h = ap₂ (λ n p. digit n c (p + t)) chosen-alike (chosen-before G w R r q same e (omega arith))
 
   start-alike : (c e t : ℕ) → e < G .edges → retimed gate G R r c .start e t ≡ retimed gate G R q c .start e t
   unfolding move moveIf
   start-alike c e t h =
-      ap (λ z. moveIf (ltb (t + down z) (up z)) G R r (choiceOf G (R .count) r c) (value gate G R quiet) e t) (at-dst e h)
+      ap (λ z. moveIf (ltb (t + down z) (up z)) G R r (choiceOf G (R .count) r c) (value gate G R quiet) e t) (lag-dst G w R r q same e h)
       ∙ go (ltb (t + down (q (G .dst e))) (up (q (G .dst e))))
     where
       go : (b : Bool) → moveIf b G R r (choiceOf G (R .count) r c) (value gate G R quiet) e t ≡ moveIf b G R q (choiceOf G (R .count) q c) (value gate G R quiet) e t
       go true = choice-alike c e t h
-      go false = rw (at-dst e h)
+      go false = rw (lag-dst G w R r q same e h)
 
   pub regs-alike : (c : ℕ) → SameRegs G (retimed gate G R r c) (retimed gate G R q c)
   unfolding move
@@ -63,7 +53,7 @@ module _ (gate : ℕ → List ℕ → ℕ) (G : Graph) (w : Wired G) (R : Regs) 
   pub legal-alike : Legal G (R .count) r → Legal G (R .count) q
   legal-alike l = record {
     pinned = λ v h p. sym (same v h) ∙ l .pinned v h p;
-    fits = λ e h. rw (← at-src e h, ← at-dst e h) (l .fits e h);
+    fits = λ e h. rw (← lag-src G w R r q same e h, ← lag-dst G w R r q same e h) (l .fits e h);
   }
 
   pub least-alike : (delay : ℕ → ℕ) (period : ℕ) → Least G (R .count) delay period r → Least G (R .count) delay period q

@@ -20,17 +20,18 @@ use Rattle.netlist.specs.Answer.{value}
 use Rattle.graph.specs.Columns.{bit}
 use Rattle.netlist.specs.Net.{graphOf, regsOf}
 use Rattle.rules.specs.Rules.{edgeFits}
-use Rattle.netlist.specs.Read.{sound, Reads, judged}
+use Rattle.netlist.specs.Read.{Reads, judged}
 use Rattle.netlist.specs.Write.{textOf}
 use Rattle.netlist.specs.Theorems.{Fit, Clean}
 use Rattle.netlist.proofs.Fits.{both}
 use Rattle.netlist.proofs.Run.{fit-rows}
 use Rattle.netlist.proofs.theorems.Lines.{lines-fact}
-use Rattle.netlist.proofs.theorems.Refusals.{none-fact}
-use Rattle.netlist.proofs.theorems.Sound.{reads-value}
+use Rattle.netlist.proofs.Judged.{judged-sound}
+use Rattle.netlist.proofs.theorems.Sound.{reads-value, reads-keeps}
 use Rattle.moves.specs.Moved.{wordOf, withRegs}
 use Rattle.moves.specs.inner.Columns.{Filled, none, withColumns}
-use Rattle.moves.proofs.Words.{sum-same, word-fits, word-bit}
+use Rattle.moves.proofs.Words.{word-fits, word-bit}
+use Rattle.theory.proofs.numbers.Sums.{sum-same}
 use Rattle.moves.proofs.Rows.{column-length, column-in, column-past, column-is, column-same}
 use Rattle.moves.proofs.Lags.{registers-alike}
 
@@ -95,14 +96,14 @@ pub with-reads : (t : List ℕ) (net : Netlist) (R : Regs) → Reads t (value 0)
     → Reads (textOf (withRegs net R)) (value 0) (withRegs net R)
 with-reads t net R r ok narrow =
     let k = reads-value r in
-    let j = none-fact (k .1) refl in
+    let j = reads-keeps r in
     let l = lines-fact t net .0 (k .0) in
     let few = fit-rows net (l .0) .1 in
     let bits = ok .bits .starts in
     let same = with-regs net R few bits in
     judged (withRegs net R)
     (lines-fact (textOf (withRegs net R)) (withRegs net R) .1 (with-fit net R few bits (l .0) narrow, with-clean net R few bits (l .1), refl))
-    (sound (j .0)
+    (judged-sound (withRegs net R) (j .fan-in)
     (λ o. ok .no-loop (record { node = o .node; walk = o .walk; moves = o .moves; bare = sym (registers-alike (regsOf (withRegs net R) .count) (R .count) (same .counts) (o .walk)) ∙ o .bare }))
-    (j .2) refl)
+    (j .joined))
     refl

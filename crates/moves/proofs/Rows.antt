@@ -1,18 +1,17 @@
 -- Rows of a table, of any kind, and the columns of 1,024 rows that a moved netlist has.
 --   rows-same           rows depend on what stands in them
---   rows-length, rows-in, rows-at    how many there are; the i-th, whatever stands past them
 --   rows-more           one more row put in
 --   column-length, column-in, column-past, column-is, column-same    so of a column, which is 0 past its n-th row
 use Prim.Native.Nat.{ℕ, zero, suc, _+_, _-_, _<_, _≤_}
 use native.Mathlib.Omega.{arith}
-use native.Mathlib.Decide.{ℕ-discrete, decLt}
+use native.Mathlib.Decide.{decLt}
 use mathlib.Core.Path.{_≡_, refl, sym, ap, ap₂, _∙_}
 use mathlib.Core.List.{List, [], _∷_, _++_, append-assoc}
-use lib.ListN.{length, getD, set, drop, length-append, List·getD-append}
-use lib.Seq.{drop-cons, set-at, getD-at, getD-append-add, ext-getD}
+use lib.ListN.{length, getD, set, drop, length-append}
+use lib.Seq.{drop-cons, set-at, getD-append-add, ext-getD}
 use Rattle.netlist.specs.Net.{zeros}
 use Rattle.netlist.specs.Write.{joined}
-use Rattle.netlist.proofs.Rows.{length-zeros, zeros-at}
+use Rattle.netlist.proofs.Rows.{length-zeros, zeros-at, rows-length, rows-at}
 use Rattle.moves.specs.Moved.{column}
 
 module _ {A : Type 0} where
@@ -20,23 +19,6 @@ module _ {A : Type 0} where
   unfolding joined
   rows-same f g zero h = refl
   rows-same f g (suc n) h = ap₂ (λ l x. l ++ (x ∷ [])) (rows-same f g n (λ i l. h i (omega arith))) (h n (omega arith))
-
-  pub rows-length : (f : ℕ → A) (n : ℕ) → length (joined (λ i. f i ∷ []) n) ≡ n
-  unfolding joined
-  rows-length f zero = refl
-  rows-length f (suc n) = length-append (joined (λ i. f i ∷ []) n) (f n ∷ []) ∙ omega (arith, rows-length f n)
-
-  pub rows-in : (f : ℕ → A) (d : A) (n i : ℕ) → i < n → getD (joined (λ i. f i ∷ []) n) i d ≡ f i
-  unfolding joined
-  rows-in f d zero i h = absurd (omega arith)
-  rows-in f d (suc n) i h = go (ℕ-discrete i n) (rows-in f d n i)
-    where
-      go : Dec (i ≡ n) → (i < n → getD (joined (λ i. f i ∷ []) n) i d ≡ f i) → getD (joined (λ i. f i ∷ []) n ++ (f n ∷ [])) i d ≡ f i
-      go (yes e) r = rw e (getD-at (joined (λ i. f i ∷ []) n) (f n) [] d n (rows-length f n))
-      go (no e) r = List·getD-append (joined (λ i. f i ∷ []) n) (f n ∷ []) d i (omega (arith, rows-length f n)) ∙ r (omega arith)
-
-  pub rows-at : (f : ℕ → A) (d : A) (n i : ℕ) (past : List A) → i < n → getD (joined (λ i. f i ∷ []) n ++ past) i d ≡ f i
-  rows-at f d n i past h = List·getD-append (joined (λ i. f i ∷ []) n) past d i (omega (arith, rows-length f n)) ∙ rows-in f d n i h
 
   -- One more row put into a list of which the first n are rows.
   pub rows-more : (f : ℕ → A) (n : ℕ) (old : List A) → n < length old → set (joined (λ i. f i ∷ []) n ++ drop n old) n (f n) ≡ joined (λ i. f i ∷ []) (suc n) ++ drop (suc n) old

@@ -1,41 +1,33 @@
 -- Start values as a word: over the count, whatever it is.
---   sum-same            a sum depends on what is summed
 --   word-fits           a word of so many bits has no bit at or above them
 --   word-bit            bit k of the word is start value k
-use Prim.Native.Nat.{ℕ, zero, suc, _+_, _*_, _^_, _/_, _%_, _-_, _<_, _≤_}
+--   put-short, put-fits    a word of so many bits with one more: how large it is; it fits a machine word
+--   words-short         the words of a choice have no bit past the chosen values
+use Prim.Native.Nat.{ℕ, zero, suc, _+_, _*_, _^_, _-_, _<_, _≤_}
 use native.Mathlib.Omega.{arith}
-use native.Mathlib.Nat.{pow-suc, mul-assoc, add-comm, add-mul-div-right, add-mul-mod-self-right, mod-eq-of-lt}
+use native.Mathlib.Nat.{lt-of-lt-of-le}
 use native.Mathlib.Decide.{ℕ-discrete}
-use mathlib.Core.Path.{_≡_, refl, sym, ap, ap₂, _∙_}
-use lib.Arith.{digits-lt}
-use lib.Pow.{pow-pos, pow-add, high}
-use Rattle.theory.specs.Move.{sum}
+use native.Mathlib.Numerals.{add-one}
+use mathlib.Core.Path.{_≡_, sym, subst, ap, _∙_}
+use mathlib.Core.List.{List}
+use lib.IntN.{ℤ}
+use lib.ListN.{length}
+use lib.Pow.{pow-mono}
+use Rattle.theory.specs.Gate.{gate}
+use Rattle.theory.specs.Move.{sum, chosenOn}
+use Rattle.theory.proofs.moves.Best.{choice-bit}
+use Rattle.theory.proofs.numbers.Bits.{bit-below, bit-top, bit-fits}
 use Rattle.graph.specs.Columns.{bit}
+use Rattle.netlist.specs.declared.Netlist.{Netlist}
+use Rattle.netlist.specs.Net.{graphOf, regsOf}
 use Rattle.moves.specs.Moved.{wordOf}
-
-pub sum-same : (f g : ℕ → ℕ) (n : ℕ) → ((i : ℕ) → i < n → f i ≡ g i) → sum f n ≡ sum g n
-unfolding sum
-sum-same f g zero h = refl
-sum-same f g (suc n) h = ap₂ _+_ (sum-same f g n (λ i l. h i (omega arith))) (h n (omega arith))
-
--- A bit above bit k is an even number of times 2 ^ k.
-bit-below : (word x d k : ℕ) → bit (word + x * 2 ^ (suc d + k)) k ≡ bit word k
-bit-below word x d k =
-    ap (λ y. (word + x * y) / 2 ^ k % 2) (pow-add 2 (suc d) k) ∙ ap (λ y. (word + y) / 2 ^ k % 2) (sym (mul-assoc x (2 ^ suc d) (2 ^ k)))
-    ∙ ap (λ y. y % 2) (add-mul-div-right word (x * 2 ^ suc d) (pow-pos k))
-    ∙ ap (λ y. (word / 2 ^ k + x * y) % 2) (pow-suc 2 d) ∙ ap (λ y. (word / 2 ^ k + y) % 2) (sym (mul-assoc x (2 ^ d) 2))
-    ∙ add-mul-mod-self-right (word / 2 ^ k) (x * 2 ^ d) 2
-
-bit-top : (word x k : ℕ) → word < 2 ^ k → x ≤ 1 → bit (word + x * 2 ^ k) k ≡ x
-bit-top word x k h l = ap (λ n. bit n k) (add-comm word (x * 2 ^ k)) ∙ ap (λ y. y % 2) (high x k h) ∙ mod-eq-of-lt (omega arith)
+use Rattle.moves.specs.inner.Chosen.{EdgeWords, ShortWords}
 
 module _ (start : ℕ → ℕ) where
   pub word-fits : (n : ℕ) → ((k : ℕ) → k < n → start k ≤ 1) → wordOf start n < 2 ^ n
   unfolding sum
   word-fits zero b = omega arith
-  word-fits (suc n) b =
-      let d : start n * 2 ^ n + wordOf start n < 2 * 2 ^ n = digits-lt (let h = b n (omega arith) in omega arith) (word-fits n (λ k h. b k (omega arith))) in
-      omega (arith, pow-suc 2 n)
+  word-fits (suc n) b = bit-fits (wordOf start n) (start n) n (word-fits n (λ k h. b k (omega arith))) (b n (omega arith))
 
   pub word-bit : (n k : ℕ) → k < n → ((k : ℕ) → k < n → start k ≤ 1) → bit (wordOf start n) k ≡ start k
   unfolding sum
@@ -48,3 +40,16 @@ module _ (start : ℕ → ℕ) where
           let d = n - suc k in
           let p : n ≡ suc d + k = omega arith in
           ap (λ m. bit (wordOf start n + start n * 2 ^ m) k) p ∙ bit-below (wordOf start n) (start n) d k ∙ r (omega arith)
+
+module _ (word t x : ℕ) (l : word < 2 ^ t) (b : x ≤ 1) where
+  pub put-short : word + x * 2 ^ t < 2 ^ (t + 1)
+  put-short = rw (add-one t) (bit-fits word x t l b)
+
+  pub put-fits : t < 32 → word + x * 2 ^ t < 2 ^ 32
+  put-fits h = lt-of-lt-of-le put-short (pow-mono {j = 32} (omega arith))
+
+pub words-short : (net : Netlist) (r : ℕ → ℤ) (c : ℕ) (words : List ℕ) → net .edges ≤ length words → EdgeWords net r c words → ShortWords net r words
+words-short net r c words l w = record {
+  rows = l;
+  fits = λ e h. subst (λ x. x < 2 ^ chosenOn (graphOf net) (regsOf net .count) r e) (sym (w e h)) (word-fits _ _ (λ t b. choice-bit gate (graphOf net) (regsOf net) r c e t));
+}

@@ -2,15 +2,13 @@
 --   column, wordOf      a column of 1,024 rows; start values as a word
 --   withRegs            the netlist with other registers
 --   movedNet            the netlist moved by lags and a choice
-use mathlib.Core.Path.{_≡_}
 use mathlib.Core.List.{List, [], _∷_, _++_}
-use Prim.Native.Nat.{ℕ, _*_, _-_, _^_, _<_, _≤_}
+use Prim.Native.Nat.{ℕ, _*_, _-_, _^_}
 use lib.IntN.{ℤ}
 use Rattle.theory.specs.Clock.{Regs}
 use Rattle.theory.specs.Gate.{gate}
 use Rattle.theory.specs.Move.{sum}
 use Rattle.theory.specs.Retimer.{retimed}
-use Rattle.graph.specs.Columns.{at}
 use Rattle.netlist.specs.declared.Netlist.{Netlist}
 use Rattle.netlist.specs.Net.{zeros, graphOf, regsOf}
 use Rattle.netlist.specs.Write.{joined}

@@ -1,24 +1,15 @@
 // The counts of the moved netlist, and how many of its start values are chosen.
 // Retiming comes here with the labels of the least retiming.
+use crate::MOST_REGISTERS;
+use graph::EDGES;
+use lags::up_of;
 use netlist::Netlist;
 ghost use mathlib.Core.Path.{_≡_};
 ghost use Prim.Native.Nat.{ℕ, _+_, _≤_, _<_, min};
 ghost use lib.ListN.{length};
-ghost use Rattle.theory.specs.Lag.{up};
 ghost use Rattle.graph.specs.Columns.{at};
-ghost use Rattle.lags.specs.inner.Lags.{lagOf};
 ghost use Rattle.moves.specs.inner.Labels.{Labelled, Counts, Wide, Bases};
 ghost use Rattle.moves.specs.inner.Columns.{Filled, none};
-
-// A label is 16,384 and the lag.
-const BIAS: u32 = 16384;
-
-// The lag of a label where it is positive, else 0.
-pub fn up_of(label: u32) -> u32
-    ensures { λ r. ⌜ r ≡ up (lagOf label) ⌝ }
-{
-    if BIAS < label { label - BIAS } else { 0 }
-}
 
 // The new count of an edge, by the labels of its ends.
 fn new_count(count: u8, from: u32, to: u32) -> u32
@@ -29,12 +20,12 @@ fn new_count(count: u8, from: u32, to: u32) -> u32
 }
 
 // "each edge's new count w + r(v) − r(u)".
-pub fn new_counts(net: Netlist, lab: &[u32]) -> [u32; 1024]
+pub fn new_counts(net: Netlist, lab: &[u32]) -> [u32; EDGES]
     requires { ⌜ Labelled net (now lab) ⌝ }
     ensures { λ r. ⌜ Counts net (now (lab .entry)) r ⌝ }
 {
     let edges = net.edges as usize;
-    let mut counts = [0u32; 1024];
+    let mut counts = [0u32; EDGES];
     let mut e = 0;
     while e < edges {
         let u = net.from[e] as usize;
@@ -52,7 +43,7 @@ pub fn too_wide(counts: &[u32], edges: usize) -> usize
 {
     let mut e = 0;
     while e < edges {
-        if 32 < counts[e] {
+        if MOST_REGISTERS < counts[e] {
             return e;
         }
         e += 1;
@@ -61,20 +52,20 @@ pub fn too_wide(counts: &[u32], edges: usize) -> usize
 }
 
 // How many values are chosen on an edge: at the clocks below its new count and below the lag of the node that it enters.
-fn chosen_on(count: u32, lag: u32) -> u32
+pub fn chosen_on(count: u32, lag: u32) -> u32
     ensures { λ r. ⌜ r ≡ min count lag ⌝ }
 {
     if count < lag { count } else { lag }
 }
 
 // How many values are chosen on the edges before each edge, and at the end on all.
-pub fn chosen(net: Netlist, lab: &[u32], counts: &[u32]) -> [u32; 1025]
+pub fn chosen(net: Netlist, lab: &[u32], counts: &[u32]) -> [u32; EDGES + 1]
     requires { ⌜ Labelled net (now lab) × Counts net (now lab) (now counts) × (net .edges ≤ length (now counts)) ⌝ }
     requires { ⌜ ((e : ℕ) → e < net .edges → at (now counts) e ≤ 32) ⌝ }
     ensures { λ r. ⌜ Bases net (now (lab .entry)) r ⌝ }
 {
     let edges = net.edges as usize;
-    let mut base = [0u32; 1025];
+    let mut base = [0u32; EDGES + 1];
     let mut total = 0;
     let mut e = 0;
     while e < edges {
@@ -87,11 +78,11 @@ pub fn chosen(net: Netlist, lab: &[u32], counts: &[u32]) -> [u32; 1025]
 }
 
 // The new counts as bytes.
-pub fn bytes_of(counts: &[u32], edges: usize) -> [u8; 1024]
+pub fn bytes_of(counts: &[u32], edges: usize) -> [u8; EDGES]
     requires { ⌜ (edges ≤ 1024) × (edges ≤ length (now counts)) × ((e : ℕ) → e < edges → at (now counts) e ≤ 32) ⌝ }
     ensures { λ r. ⌜ Filled (at (now (counts .entry))) none edges r ⌝ }
 {
-    let mut bytes = [0u8; 1024];
+    let mut bytes = [0u8; EDGES];
     let mut e = 0;
     while e < edges {
         bytes[e] = counts[e] as u8;

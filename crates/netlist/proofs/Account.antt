@@ -1,41 +1,35 @@
 -- What the lines of a text come to: each line that is read puts a row into the record, and the text so far is the text of the record so far.
---   ClearTo net n m     its columns have their lengths, and 0 from row n of the nodes and row m of the edges on
 --   Account t x         why the lines of the text t come to x
 --   nodeRow, edgeRow    a row of a record, over its columns
 --   nodeOf, edgeOf      the line of a row
 --   node-.., edge-..    what one more row changes, and what it keeps
 --   turn                one line
 --   account             every text has an account
-use Prim.Native.Nat.{ℕ, zero, suc, _+_, _<_, _≤_}
+use Prim.Native.Nat.{ℕ, zero, suc, _+_, _<_}
 use native.Mathlib.Omega.{arith}
 use mathlib.Core.Path.{_≡_, refl, sym, ap, _∙_, subst}
 use mathlib.Core.Logic.{_≢_}
 use mathlib.Core.Bool.{Bool, true, false, cond}
 use mathlib.Core.List.{List, [], _∷_, _++_, append-assoc, append-nil}
-use lib.ListN.{length, getD, length-set}
+use lib.ListN.{getD, length-set}
 use lib.Seq.{getD-set-same, getD-set-other}
+use borrow.Author.Count.{below-more}
 use Rattle.frame.specs.Frame.{Line, bad, line, onLine, frameAt, numberAt, lineOf}
 use Rattle.frame.proofs.Laws.{frame-rest}
 use Rattle.netlist.specs.declared.Netlist.{Netlist}
-use Rattle.netlist.specs.Answer.{atLine as at-line}
+use Rattle.netlist.specs.Answer.{atLine}
 use Rattle.netlist.specs.Net.{withHead, withNode, withEdge, graphOf}
 use Rattle.rules.specs.Rules.{nodeFits, edgeFits}
 use Rattle.netlist.specs.Read.{Lines, fault, lines, nothingMore, linesOf, nodesFrom, edgesFrom}
 use Rattle.netlist.specs.Write.{nodeLine, edgeLine, joined, textOf}
-use Rattle.netlist.specs.Theorems.{FitTo, Fit, Clean, toNode, toEdge, FaultAt, head-frame, head-range, node-frame, node-rule, edge-frame, edge-rule, surplus}
-use Rattle.netlist.proofs.Rows.{below-more, length-zeros, zeros-at, set-past, joined-same}
+use Rattle.netlist.specs.Theorems.{FitTo, Fit, CleanTo, Clean, toNode, toEdge, FaultAt, head-frame, head-range, node-frame, node-rule, edge-frame, edge-rule, surplus}
+use Rattle.netlist.proofs.Rows.{length-zeros, zeros-at, set-past, joined-same}
 use Rattle.netlist.proofs.Fits.{clash, head-fits}
 use Rattle.netlist.proofs.Fields.{headBytes, edgeBytes, four-bytes, nodeBytes, node-bytes}
 
-pub record ClearTo (net : Netlist) (n m : ℕ) : Type 0 where
-  pub kinds : (length (net .kind) ≡ 512) × (length (net .delay) ≡ 512)
-  pub ends : (length (net .from) ≡ 1024) × (length (net .to) ≡ 1024) × (length (net .count) ≡ 1024) × (length (net .start) ≡ 1024)
-  pub node : (v : ℕ) → n ≤ v → (getD (net .kind) v 0 ≡ 0) × (getD (net .delay) v 0 ≡ 0)
-  pub edge : (e : ℕ) → m ≤ e → (getD (net .from) e 0 ≡ 0) × (getD (net .to) e 0 ≡ 0) × (getD (net .count) e 0 ≡ 0) × (getD (net .start) e 0 ≡ 0)
-
 pub data Account (t : List ℕ) : Lines → Type 0 where
   right : (net : Netlist) → Fit net → Clean net → t ≡ textOf net → Account t (lines net)
-  wrong : (q n : ℕ) → FaultAt t q n → Account t (fault (at-line q n))
+  wrong : (q n : ℕ) → FaultAt t q n → Account t (fault (atLine q n))
 
 -- ── Rows ────────────────────────────────────────────────────────────────────────────────────
 
@@ -65,7 +59,7 @@ EdgeFits nodes kind r = edgeFits nodes kind (r .0) (r .1) (r .2) (r .3) ≡ true
 
 -- ── One more node ───────────────────────────────────────────────────────────────────────────
 
-module _ (net : Netlist) (i k d : ℕ) (f : FitTo net i 0) (c : ClearTo net i 0) (few : i < net .nodes) where
+module _ (net : Netlist) (i k d : ℕ) (f : FitTo net i 0) (c : CleanTo net i 0) (few : i < net .nodes) where
   node-put : nodeRow (withNode net i k d) i ≡ (k, d)
   node-put =
       let h = head-fits (net .period) (net .derate) (net .nodes) (net .edges) (f .head) in
@@ -79,13 +73,13 @@ module _ (net : Netlist) (i k d : ℕ) (f : FitTo net i 0) (c : ClearTo net i 0)
   node-fit : nodeFits k d ≡ true → FitTo (withNode net i k d) (suc i) 0
   node-fit h = record {
     head = f .head;
-    node = below-more (λ v. NodeFits (nodeRow (withNode net i k d) v)) i
-        (λ v l. subst NodeFits (sym (node-kept v (omega arith))) (f .node v l)) (subst NodeFits (sym node-put) h);
+    node = λ v l. below-more (λ v. NodeFits (nodeRow (withNode net i k d) v)) i
+        (λ v l. subst NodeFits (sym (node-kept v (omega arith))) (f .node v l)) (subst NodeFits (sym node-put) h) v (omega arith);
     edge = λ e l. absurd (omega arith);
   }
 
-  node-clear : ClearTo (withNode net i k d) (suc i) 0
-  node-clear = record {
+  node-clean : CleanTo (withNode net i k d) (suc i) 0
+  node-clean = record {
     kinds = (length-set (net .kind) i k ∙ c .kinds .0, length-set (net .delay) i d ∙ c .kinds .1);
     ends = c .ends;
     node = λ v l. (set-past (net .kind) i k (λ j m. c .node j m .0) v l, set-past (net .delay) i d (λ j m. c .node j m .1) v l);
@@ -99,7 +93,7 @@ module _ (net : Netlist) (i k d : ℕ) (f : FitTo net i 0) (c : ClearTo net i 0)
 
 -- ── One more edge ───────────────────────────────────────────────────────────────────────────
 
-module _ (net : Netlist) (i u v w s : ℕ) (f : FitTo net (net .nodes) i) (c : ClearTo net (net .nodes) i) (few : i < net .edges) where
+module _ (net : Netlist) (i u v w s : ℕ) (f : FitTo net (net .nodes) i) (c : CleanTo net (net .nodes) i) (few : i < net .edges) where
   edge-put : edgeRow (withEdge net i u v w s) i ≡ (u, v, w, s)
   edge-put =
       let h = head-fits (net .period) (net .derate) (net .nodes) (net .edges) (f .head) in
@@ -121,13 +115,13 @@ module _ (net : Netlist) (i u v w s : ℕ) (f : FitTo net (net .nodes) i) (c : C
   edge-fit h = record {
     head = f .head;
     node = f .node;
-    edge = below-more (λ e. EdgeFits (net .nodes) (graphOf net .kind) (edgeRow (withEdge net i u v w s) e)) i
+    edge = λ e l. below-more (λ e. EdgeFits (net .nodes) (graphOf net .kind) (edgeRow (withEdge net i u v w s) e)) i
         (λ e l. subst (EdgeFits (net .nodes) (graphOf net .kind)) (sym (edge-kept e (omega arith))) (f .edge e l))
-        (subst (EdgeFits (net .nodes) (graphOf net .kind)) (sym edge-put) h);
+        (subst (EdgeFits (net .nodes) (graphOf net .kind)) (sym edge-put) h) e (omega arith);
   }
 
-  edge-clear : ClearTo (withEdge net i u v w s) (net .nodes) (suc i)
-  edge-clear = record {
+  edge-clean : CleanTo (withEdge net i u v w s) (net .nodes) (suc i)
+  edge-clean = record {
     kinds = c .kinds;
     ends = (length-set (net .from) i u ∙ c .ends .0, length-set (net .to) i v ∙ c .ends .1, length-set (net .count) i w ∙ c .ends .2, length-set (net .start) i s ∙ c .ends .3);
     node = c .node;
@@ -151,14 +145,14 @@ turn : (t l : List ℕ) (k m q n : ℕ) (test : List ℕ → Bool) (next : List 
     → (frameAt k m l ≡ bad → FaultAt t 1 n)
     → ((bs rest : List ℕ) → frameAt k m l ≡ line bs rest → test bs ≡ false → FaultAt t q n)
     → ((bs rest : List ℕ) → frameAt k m l ≡ line bs rest → test bs ≡ true → Account t (next bs rest))
-    → Account t (onLine (frameAt k m l) (fault (at-line 1 n)) λ bs rest. cond (test bs) (next bs rest) (fault (at-line q n)))
+    → Account t (onLine (frameAt k m l) (fault (atLine 1 n)) λ bs rest. cond (test bs) (next bs rest) (fault (atLine q n)))
 turn t l k m q n test next none broken good = by-frame (frameAt k m l) refl
   where
-    by-rule : (bs rest : List ℕ) → frameAt k m l ≡ line bs rest → (b : Bool) → test bs ≡ b → Account t (cond b (next bs rest) (fault (at-line q n)))
+    by-rule : (bs rest : List ℕ) → frameAt k m l ≡ line bs rest → (b : Bool) → test bs ≡ b → Account t (cond b (next bs rest) (fault (atLine q n)))
     by-rule bs rest a true b = good bs rest a b
     by-rule bs rest a false b = wrong q n (broken bs rest a b)
 
-    by-frame : (x : Line) → frameAt k m l ≡ x → Account t (onLine x (fault (at-line 1 n)) λ bs rest. cond (test bs) (next bs rest) (fault (at-line q n)))
+    by-frame : (x : Line) → frameAt k m l ≡ x → Account t (onLine x (fault (atLine 1 n)) λ bs rest. cond (test bs) (next bs rest) (fault (atLine q n)))
     by-frame bad a = wrong 1 n (none a)
     by-frame (line bs rest) a = by-rule bs rest a (test bs) refl
 
@@ -167,20 +161,20 @@ read-line : (k n : ℕ) (t before l bs bs′ rest : List ℕ) → frameAt k n l 
 read-line k n t before l bs bs′ rest p q h = h ∙ ap (λ x. before ++ x) (frame-rest k n l bs rest p .1 .1) ∙ rw q (simp append-assoc)
 
 -- No edge is left.
-at-end : (t l : List ℕ) (net : Netlist) → Fit net → ClearTo net (net .nodes) (net .edges) → t ≡ toEdge net (net .edges) ++ l
+at-end : (t l : List ℕ) (net : Netlist) → Fit net → Clean net → t ≡ toEdge net (net .edges) ++ l
     → Account t (nothingMore l (net .nodes + net .edges + 2) net)
 unfolding textOf
-at-end t [] net f c p = right net f (record { kinds = c .kinds; ends = c .ends; node = c .node; edge = c .edge }) (p ∙ append-nil _)
+at-end t [] net f c p = right net f c (p ∙ append-nil _)
 at-end t (x ∷ l) net f c p = wrong 1 (net .nodes + net .edges + 2) (surplus net (x ∷ l) f p (λ q. clash (cc)))
 
 -- m edges are left.
-at-edges : (t : List ℕ) (m e : ℕ) (l : List ℕ) (net : Netlist) → m + e ≡ net .edges → FitTo net (net .nodes) e → ClearTo net (net .nodes) e → t ≡ toEdge net e ++ l
+at-edges : (t : List ℕ) (m e : ℕ) (l : List ℕ) (net : Netlist) → m + e ≡ net .edges → FitTo net (net .nodes) e → CleanTo net (net .nodes) e → t ≡ toEdge net e ++ l
     → Account t (edgesFrom m e (net .nodes + e + 2) l net)
 unfolding edgesFrom
 at-edges t zero e l net q f c p =
     let d : e ≡ net .edges = omega arith in
     subst (λ k. Account t (nothingMore l (net .nodes + k + 2) net)) (sym d)
-    (at-end t l net (subst (FitTo net (net .nodes)) d f) (subst (ClearTo net (net .nodes)) d c) (p ∙ ap (λ k. toEdge net k ++ l) d))
+    (at-end t l net (subst (FitTo net (net .nodes)) d f) (subst (CleanTo net (net .nodes)) d c) (p ∙ ap (λ k. toEdge net k ++ l) d))
 at-edges t (suc m) e l net q f c p =
     turn t l 3 9 4 (net .nodes + e + 2) _ _ (λ a. edge-frame net e l f (omega arith) p a) (λ bs rest a b. edge-rule net e l bs rest f (omega arith) p a b)
     (λ bs rest a b.
@@ -193,18 +187,18 @@ at-edges t (suc m) e l net q f c p =
     let n : net .nodes + suc e + 2 ≡ suc (net .nodes + e + 2) = omega arith in
     let text = read-line 3 9 t (toEdge net e) l bs (edgeBytes u v w s) rest a (four-bytes 2 2 1 4 bs (r .0) (r .1 .0)) p in
     subst (λ k. Account t (edgesFrom m (suc e) k rest (withEdge net e u v w s))) n
-    (at-edges t m (suc e) rest (withEdge net e u v w s) (omega arith) (edge-fit net e u v w s f c few b) (edge-clear net e u v w s f c few)
+    (at-edges t m (suc e) rest (withEdge net e u v w s) (omega arith) (edge-fit net e u v w s f c few b) (edge-clean net e u v w s f c few)
     (text ∙ ap (λ x. x ++ rest) (sym (edge-text net e u v w s f c few)))))
 
 -- m nodes are left, and all edges.
-at-nodes : (t : List ℕ) (m i : ℕ) (l : List ℕ) (net : Netlist) → m + i ≡ net .nodes → FitTo net i 0 → ClearTo net i 0 → t ≡ toNode net i ++ l
+at-nodes : (t : List ℕ) (m i : ℕ) (l : List ℕ) (net : Netlist) → m + i ≡ net .nodes → FitTo net i 0 → CleanTo net i 0 → t ≡ toNode net i ++ l
     → Account t (nodesFrom m i (i + 2) l net)
 unfolding nodesFrom joined
 at-nodes t zero i l net q f c p =
     let d : i ≡ net .nodes = omega arith in
     let n : net .nodes + 0 + 2 ≡ i + 2 = omega arith in
     subst (λ k. Account t (edgesFrom (net .edges) 0 k l net)) n
-    (at-edges t (net .edges) 0 l net (omega arith) (subst (λ k. FitTo net k 0) d f) (subst (λ k. ClearTo net k 0) d c)
+    (at-edges t (net .edges) 0 l net (omega arith) (subst (λ k. FitTo net k 0) d f) (subst (λ k. CleanTo net k 0) d c)
     (p ∙ ap (λ k. toNode net k ++ l) d ∙ simp append-nil))
 at-nodes t (suc m) i l net q f c p =
     turn t l 2 2 3 (i + 2) _ _ (λ a. node-frame net i l f (omega arith) p a) (λ bs rest a b. node-rule net i l bs rest f (omega arith) p a b)
@@ -215,12 +209,12 @@ at-nodes t (suc m) i l net q f c p =
     let n : suc i + 2 ≡ suc (i + 2) = omega arith in
     let text = read-line 2 2 t (toNode net i) l bs (nodeBytes k d) rest a (node-bytes bs (frame-rest 2 2 l bs rest a .0)) p in
     subst (λ k′. Account t (nodesFrom m (suc i) k′ rest (withNode net i k d))) n
-    (at-nodes t m (suc i) rest (withNode net i k d) (omega arith) (node-fit net i k d f c few b) (node-clear net i k d f c few)
+    (at-nodes t m (suc i) rest (withNode net i k d) (omega arith) (node-fit net i k d f c few b) (node-clean net i k d f c few)
     (text ∙ ap (λ x. x ++ rest) (sym (node-text net i k d f c few)))))
 
-head-clear : (p d n e : ℕ) → ClearTo (withHead p d n e) 0 0
+head-clean : (p d n e : ℕ) → CleanTo (withHead p d n e) 0 0
 unfolding withHead
-head-clear p d n e = record {
+head-clean p d n e = record {
   kinds = (length-zeros 512, length-zeros 512);
   ends = (length-zeros 1024, length-zeros 1024, length-zeros 1024, length-zeros 1024);
   node = λ v l. (zeros-at 512 v, zeros-at 512 v);
@@ -241,5 +235,5 @@ account t =
     let r = frame-rest 1 7 t bs rest a in
     at-nodes t n 0 rest (withHead p d n e) (omega arith)
     (record { head = b; node = λ v l. absurd (omega arith); edge = λ v l. absurd (omega arith) })
-    (head-clear p d n e)
+    (head-clean p d n e)
     (read-line 1 7 t [] t bs (headBytes p d n e) rest a (four-bytes 2 1 2 2 bs (r .0) (r .1 .0)) refl ∙ simp append-nil))

@@ -2,7 +2,7 @@
 --   Alike G G′ c c′     the same nodes and edges, with the same kinds, ends and counts
 --   Copy                a walk with so many registers and so many edges
 --   walk-alike          every walk of the one is one of the other
---   fan-alike, loop-alike, joined-alike
+--   fan-alike, loop-alike, joined-alike    a rule is kept in both; the lowest node that breaks it is the same: lowest-fan, lowest-reach
 --   judged-same         so what is said of a netlist is said of one that is the same
 use Prim.Native.Nat.{ℕ, zero, suc, _+_, _<_, _≤_}
 use native.Mathlib.Omega.{arith}
@@ -18,9 +18,10 @@ use Rattle.graph.specs.Columns.{fan-in}
 use Rattle.netlist.specs.declared.Netlist.{Netlist}
 use Rattle.netlist.specs.Answer.{Said}
 use Rattle.netlist.specs.Net.{graphOf, regsOf}
-use Rattle.netlist.specs.Read.{FanInFits, InReach, All, Lowest, Judged, five, six, seven, sound}
+use Rattle.netlist.specs.Read.{FanInFits, InReach, Lowest, Judged}
 use Rattle.netlist.specs.Theorems.{Same}
 use Rattle.rules.specs.Rules.{ruleOf}
+use Rattle.netlist.proofs.Order.{else-map, given-map, given-at-map}
 
 pub record Alike (G G′ : Graph) (c c′ : ℕ → ℕ) : Type 0 where
   pub nodes : G .nodes ≡ G′ .nodes
@@ -87,9 +88,6 @@ module _ {G G′ : Graph} {c c′ : ℕ → ℕ} (a : Alike G G′ c c′) where
         dst-in = λ e h. omega (arith, a .dst e (omega arith), w .dst-in e (omega arith));
       }
 
-all-same : {R R′ : ℕ → Type 0} {n n′ : ℕ} → n ≡ n′ → ((v : ℕ) → v < n → R v → R′ v) → All R n → All R′ n′
-all-same e f all v h = f v (omega arith) (all v (omega arith))
-
 lowest-same : {R R′ : ℕ → Type 0} {n n′ v : ℕ} → n ≡ n′ → ((v : ℕ) → v < n → R v → R′ v) → ((v : ℕ) → v < n → R′ v → R v) → Lowest R n v → Lowest R′ n′ v
 lowest-same {v = v} e f g l = let h = l .there in record {
   there = omega arith;
@@ -97,39 +95,28 @@ lowest-same {v = v} e f g l = let h = l .there in record {
   before = λ u k. f u (omega arith) (l .before u k);
 }
 
+module _ {G G′ : Graph} {c c′ : ℕ → ℕ} (a : Alike G G′ c c′) where
+  lowest-fan : (v : ℕ) → Lowest (FanInFits G) (G .nodes) v → Lowest (FanInFits G′) (G′ .nodes) v
+  lowest-fan v = lowest-same (a .nodes) (fan-alike a) (λ u h. fan-alike (back a) u (omega (arith, a .nodes)))
+
+  lowest-reach : Wired G → (v : ℕ) → Lowest (InReach G) (G .nodes) v → Lowest (InReach G′) (G′ .nodes) v
+  lowest-reach w v = lowest-same (a .nodes) (λ u h. joined-alike a w u) (λ u h. joined-alike (back a) (wired-alike a w) u)
+
+same-alike : {net net′ : Netlist} → Same net net′ → Alike (graphOf net) (graphOf net′) (regsOf net .count) (regsOf net′ .count)
+same-alike q = record {
+  nodes = q .head .2;
+  edges = q .head .3;
+  kind = λ v h. q .node v h .0;
+  src = λ e h. q .edge e h .0;
+  dst = λ e h. q .edge e h .1;
+  count = λ e h. q .edge e h .2;
+}
+
 pub judged-same : {net net′ : Netlist} {s : Said} → Wired (graphOf net) → Same net net′ → Judged net s → Judged net′ s
-judged-same {net} {net′} {s} w q = go
-  where
-    a : Alike (graphOf net) (graphOf net′) (regsOf net .count) (regsOf net′ .count)
-    a = record {
-      nodes = q .head .2;
-      edges = q .head .3;
-      kind = λ v h. q .node v h .0;
-      src = λ e h. q .edge e h .0;
-      dst = λ e h. q .edge e h .1;
-      count = λ e h. q .edge e h .2;
-    }
-
-    n : net .nodes ≡ net′ .nodes
-    n = q .head .2
-
-    fan : (v : ℕ) → v < net .nodes → FanInFits (graphOf net) v → FanInFits (graphOf net′) v
-    fan = fan-alike a
-
-    fan-back : (v : ℕ) → v < net .nodes → FanInFits (graphOf net′) v → FanInFits (graphOf net) v
-    fan-back v h = fan-alike (back a) v (subst (λ m. v < m) n h)
-
-    no-loop : ¬ Loop (graphOf net) (regsOf net .count) → ¬ Loop (graphOf net′) (regsOf net′ .count)
-    no-loop o l = o (loop-alike (back a) l)
-
-    joins : (v : ℕ) → v < net .nodes → InReach (graphOf net) v → InReach (graphOf net′) v
-    joins v h = joined-alike a w v
-
-    joins-back : (v : ℕ) → v < net .nodes → InReach (graphOf net′) v → InReach (graphOf net) v
-    joins-back v h = joined-alike (back a) (wired-alike a w) v
-
-    go : Judged net s → Judged net′ s
-    go (five v l p) = five v (lowest-same n fan fan-back l) p
-    go (six f l p) = six (all-same n fan f) (loop-alike a l) p
-    go (seven f o v l p) = seven (all-same n fan f) (no-loop o) v (lowest-same n joins joins-back l) p
-    go (sound f o j p) = sound (all-same n fan f) (no-loop o) (all-same n joins j) p
+judged-same {s = s} w q =
+    let a = same-alike q in
+    let b = back a in
+    else-map (given-at-map (lowest-fan a)) (given-at-map (lowest-fan b))
+    (else-map (given-map (loop-alike a)) (given-map (loop-alike b))
+    (else-map (given-at-map (lowest-reach a w)) (given-at-map (lowest-reach b (wired-alike a w))) (λ x e. e)))
+    s

@@ -1,5 +1,6 @@
 -- Rules 5, 6 and 7 can be told of every netlist whose edges join nodes.
---   lowest              the lowest number that breaks a rule, or all keep it
+--   lowest, lowest?     the lowest number that breaks a rule, or all keep it
+--   none-all            where there is no lowest that breaks a rule, all keep it
 --   listed              arrival times in a list
 --   loop?, from?        from arrival times: a loop without a register, a walk from a pin
 --   judge               what the rules 5, 6 and 7 say
@@ -12,7 +13,7 @@ use mathlib.Core.Bool.{Bool, true, false}
 use lib.Dec.{eqb}
 use Rattle.theory.specs.Graph.{Graph, Wired}
 use Rattle.theory.specs.Walk.{Loop}
-use Rattle.theory.proofs.numbers.Find.{any, first}
+use Rattle.theory.proofs.numbers.Find.{any, first, not?}
 use Rattle.theory.proofs.walks.Walks.{walk-end}
 use Rattle.theory.specs.inner.Arrival.{Reached, Arrival}
 use Rattle.theory.proofs.least.Times.{arrival-times}
@@ -23,10 +24,13 @@ use Rattle.graph.proofs.Answers.{loop-told, from-told}
 use Rattle.graph.proofs.Laws.{from-input, input-from, to-output, output-from}
 use Rattle.netlist.specs.declared.Netlist.{Netlist}
 use Rattle.netlist.specs.Answer.{Said, value, whole, atNode}
+use Rattle.netlist.specs.Order.{GivenAt}
 use Rattle.netlist.specs.Net.{graphOf, regsOf}
 use Rattle.rules.specs.Rules.{ruleOf}
-use Rattle.netlist.specs.Read.{FanInFits, InReach, All, Lowest, Judged, five, six, seven, sound}
+use Rattle.netlist.specs.Read.{FanInFits, InReach, All, Lowest, Judged}
 use Rattle.netlist.proofs.Rows.{column, column-in}
+use Rattle.netlist.proofs.Order.{Some, Decided, else-some, given?}
+use Rattle.netlist.proofs.Judged.{all-none}
 
 -- ── Decisions ───────────────────────────────────────────────────────────────────────────────
 
@@ -50,13 +54,16 @@ lowest {Rule} n d =
     (λ none. inr (λ v h. keeps (d v h) (none v h)))
     (first n (λ v h. not? (d v h)))
   where
-    not? : {A : Type 0} → Dec A → Dec (¬ A)
-    not? (yes a) = no (λ f. f a)
-    not? (no a) = yes a
-
     keeps : {A : Type 0} → Dec A → ¬ ¬ A → A
     keeps (yes a) f = a
     keeps (no a) f = absurd (f a)
+
+module _ {Rule : ℕ → Type 0} (n : ℕ) (x : ℕ → Said) (d : (v : ℕ) → v < n → Dec (Rule v)) where
+  lowest? : Decided (GivenAt (Lowest Rule n) x)
+  lowest? = ⊎-elim (λ r. inl (x (r .0), (r .0, r .1, refl))) (λ a. inr (all-none a)) (lowest n d)
+
+  pub none-all : ((s : Said) → ¬ GivenAt (Lowest Rule n) x s) → All Rule n
+  none-all none = ⊎-elim (λ r. absurd (none (x (r .0)) (r .0, r .1, refl))) (λ a. a) (lowest n d)
 
 -- ── Loops and reach ─────────────────────────────────────────────────────────────────────────
 
@@ -92,23 +99,18 @@ module _ {G : Graph} (w : Wired G) where
       let time = column (G .nodes) (a .0) (G .nodes) in
       told? (eqb (at time v) 1) (from-told w none delay none pin (λ e l. refl) (λ u l. refl) (λ u l. refl) time (listed none delay 0 none (a .0) (a .1)) v h)
 
-joined? : {G : Graph} → Wired G → (v : ℕ) → v < G .nodes → Dec (InReach G v)
+pub joined? : {G : Graph} → Wired G → (v : ℕ) → v < G .nodes → Dec (InReach G v)
 joined? {G} w v h =
     let turned : Wired (reverse G) = record { src-in = w .dst-in; dst-in = w .src-in } in
     both? (same? from-input input-from (from? w 0 v h)) (same? (to-output w) (output-from w) (from? turned 1 v h))
 
-fan-in? : (G : Graph) (v : ℕ) → v < G .nodes → Dec (FanInFits G v)
+pub fan-in? : (G : Graph) (v : ℕ) → v < G .nodes → Dec (FanInFits G v)
 fan-in? G v h = both? (decLe (ruleOf (G .kind v) .fewest) (fan-in G v)) (decLe (fan-in G v) (ruleOf (G .kind v) .most))
 
 -- ── The whole ───────────────────────────────────────────────────────────────────────────────
 
--- In order: the lowest node that breaks rule 5, or a loop, or the lowest that breaks rule 7, or nothing.
-pub judge : (net : Netlist) → Wired (graphOf net) → (s : Said) × Judged net s
-judge net w = ⊎-elim (λ r. (atNode 5 (r .0), five (r .0) (r .1) refl)) by-loop (lowest (net .nodes) (fan-in? (graphOf net)))
-  where
-    by-loop : All (FanInFits (graphOf net)) (net .nodes) → (s : Said) × Judged net s
-    by-loop a = go (loop? w (regsOf net .count))
-      where
-        go : Dec (Loop (graphOf net) (regsOf net .count)) → (s : Said) × Judged net s
-        go (yes l) = (whole 6, six a l refl)
-        go (no l) = ⊎-elim (λ r. (atNode 7 (r .0), seven a l (r .0) (r .1) refl)) (λ j. (value 0, sound a l j refl)) (lowest (net .nodes) (joined? w))
+pub judge : (net : Netlist) → Wired (graphOf net) → Some (Judged net)
+judge net w =
+    else-some (lowest? (net .nodes) (atNode 5) (fan-in? (graphOf net)))
+    (else-some (given? (whole 6) (loop? w (regsOf net .count)))
+    (else-some (lowest? (net .nodes) (atNode 7) (joined? w)) (value 0, refl)))

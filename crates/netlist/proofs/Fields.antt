@@ -11,7 +11,8 @@ use mathlib.Core.List.{List, [], _∷_, _++_, append-assoc, append-nil}
 use lib.ListN.{length, take, drop, length-append, length-drop}
 use lib.Seq.{take-at, drop-at, take-add, take-all, length-take-le}
 use Rattle.frame.specs.Frame.{line, frameAt, number, numberAt, lineOf, bytesOf}
-use Rattle.frame.proofs.Laws.{Bytes, bytes-append, bytes-take, bytes-drop, frame-written, length-bytes, bytes-bytes, number-bytes, bytes-number}
+use Rattle.frame.proofs.Numbers.{Bytes, bytes-append, bytes-take, bytes-drop, length-bytes, bytes-bytes, number-bytes, bytes-number}
+use Rattle.frame.proofs.Laws.{frame-written}
 
 -- ── A number among bytes ────────────────────────────────────────────────────────────────────
 

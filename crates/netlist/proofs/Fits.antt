@@ -3,28 +3,20 @@
 --   both, within-true   tests that hold
 --   head-fits, node-fits, edge-fits    the ranges that a line's numbers keep
 --   edge-fits-same      an edge's rules look at the kinds of nodes only
---   headTest, nodeTest, edgeTest       the tests of a record's own numbers
 use Prim.Native.Nat.{ℕ, _^_, _<_, _≤_}
 use native.Mathlib.Omega.{arith}
 use mathlib.Core.Path.{_≡_, refl}
 use mathlib.Core.Bool.{Bool, true, false, cond}
 use lib.Dec.{ltb, leb}
-use lib.ListN.{getD}
 use borrow.Author.Tests.{ltb-true, leb-true}
 use Rattle.frame.specs.Frame.{within}
-use Rattle.netlist.specs.declared.Netlist.{Netlist}
-use Rattle.netlist.specs.Net.{graphOf}
+pub use Rattle.frame.proofs.Digits.{clash, within-true}
+pub use Rattle.netlist.specs.Theorems.{headTest, nodeTest, edgeTest}
 use Rattle.rules.specs.Rules.{ruleOf, headFits, nodeFits, edgeFits}
-
-pub clash : {A : Type 0} → _≡_ {A = ℕ} 0 1 → A
-clash z = absurd (omega arith)
 
 pub both : (a b : Bool) → cond a b false ≡ true → (a ≡ true) × (b ≡ true)
 both true b h = (refl, h)
 both false b h = clash (cc)
-
-pub within-true : (low high x : ℕ) → within low high x ≡ true → (low ≤ x) × (x ≤ high)
-within-true low high x h = let b = both (leb low x) (leb x high) h in (leb-true low x (b .0), leb-true x high (b .1))
 
 pub head-fits : (p d n e : ℕ) → headFits p d n e ≡ true → (p ≤ 65535) × (d ≤ 250) × (n ≤ 512) × (e ≤ 1024)
 unfolding headFits
@@ -65,12 +57,3 @@ edge-fits-same nodes kind kind′ q u v w s = go (ltb u nodes) (ltb v nodes) ref
     go true true h k = rw (q u (ltb-true u nodes h), q v (ltb-true v nodes k))
     go true false h k = rw (h, k)
     go false b h k = rw h
-
-abbrev pub headTest : Netlist → Bool
-headTest net = headFits (net .period) (net .derate) (net .nodes) (net .edges)
-
-abbrev pub nodeTest : Netlist → ℕ → Bool
-nodeTest net v = nodeFits (getD (net .kind) v 0) (getD (net .delay) v 0)
-
-abbrev pub edgeTest : Netlist → ℕ → Bool
-edgeTest net e = edgeFits (net .nodes) (graphOf net .kind) (getD (net .from) e 0) (getD (net .to) e 0) (getD (net .count) e 0) (getD (net .start) e 0)

@@ -23,3 +23,5 @@ pub mod Alike
 pub mod theorems
 -- From what a stage answered to what reading and writing say.
 pub mod Answered
+-- A text read and written again.
+pub mod Rewritten

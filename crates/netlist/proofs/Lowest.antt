@@ -1,33 +1,44 @@
 -- The rules of the whole, as code asks them: what a test says of one node, and what a search has found.
 --   few                 such a record has at most 512 nodes
+--   kind-low, count-low a gate kind is at most 9; no edge has more than 32 registers
 --   laid                a record whose lines are right, in columns
 --   fan-test            the test of rule 5 says whether a node keeps it
+--   fan-low             by rule 5 no node is entered by more than 8 edges
 --   joined-yes, unfed, unused    the tests of rule 7
 --   told-yes, told-no   what an answer says
---   sought-lowest       a search that stops at the first node that breaks the rule
+--   sought-lowest, sought-none    a search that stops at the first node that breaks the rule, or finds none
 use Prim.Native.Nat.{ℕ, _≤_, _<_}
 use mathlib.Core.Path.{_≡_, refl, sym, subst}
-use mathlib.Core.Bool.{Bool, true, false}
+use mathlib.Core.Bool.{Bool, true, false, cond}
 use native.Mathlib.Omega.{arith}
 use borrow.Author.Tests.{le-leb, eq-eqb, ne-eqb}
-use lib.Dec.{eqb}
+use lib.Dec.{eqb, ltb}
 use lib.ListN.{length}
 use Rattle.frame.specs.Frame.{within}
 use Rattle.theory.specs.Graph.{Graph, Wired}
-use Rattle.graph.specs.Columns.{fan-in}
+use Rattle.graph.specs.Columns.{at, fan-in}
 use Rattle.graph.specs.inner.Laid.{reverse, From, Told, Laid}
 use Rattle.graph.proofs.Laws.{from-input, input-from, to-output, output-from}
 use Rattle.netlist.specs.declared.Netlist.{Netlist}
-use Rattle.netlist.specs.Answer.{atNode}
+use Rattle.netlist.specs.Net.{graphOf}
+use Rattle.netlist.specs.Answer.{value, atNode}
+use Rattle.netlist.specs.Order.{here, past}
 use Rattle.rules.specs.Rules.{ruleOf}
 use Rattle.netlist.specs.Read.{FanInFits, InReach, All}
-use Rattle.netlist.specs.inner.Stages.{Sought, found}
+use Rattle.netlist.specs.inner.Stages.{Sought}
 use Rattle.netlist.specs.Theorems.{Fit}
-use Rattle.netlist.proofs.Fits.{clash, within-true, head-fits}
+use Rattle.netlist.proofs.Fits.{clash, within-true, head-fits, node-fits, edge-fits}
 use Rattle.netlist.proofs.Run.{fit-wired}
+use Rattle.netlist.proofs.Judged.{all-none}
 
 pub few : (net : Netlist) → Fit net → net .nodes ≤ 512
 few net f = head-fits (net .period) (net .derate) (net .nodes) (net .edges) (f .head) .2
+
+pub kind-low : (net : Netlist) → Fit net → (v : ℕ) → v < net .nodes → at (net .kind) v < 10
+kind-low net f v h = omega (arith, node-fits (at (net .kind) v) (at (net .delay) v) (f .node v h) .0)
+
+pub count-low : (net : Netlist) → Fit net → (e : ℕ) → e < net .edges → at (net .count) e ≤ 32
+count-low net f e h = edge-fits (net .nodes) (graphOf net .kind) (at (net .from) e) (at (net .to) e) (at (net .count) e) (at (net .start) e) (f .edge e h) .2
 
 pub laid : (net : Netlist) → Fit net → 1024 ≤ length (net .from) → 1024 ≤ length (net .to) → Laid (net .nodes) (net .edges) (net .from) (net .to)
 laid net f hf ht =
@@ -58,6 +69,15 @@ fan-test G v x false e t = λ k.
     let high = le-leb x (ruleOf (G .kind v) .most) (rw e (k .1)) in
     clash (cc)
 
+pub fan-low : (net : Netlist) → All (FanInFits (graphOf net)) (net .nodes) → (v : ℕ) → v < net .nodes → fan-in (graphOf net) v ≤ 8
+unfolding ruleOf
+fan-low net fan v h = go (ltb (at (net .kind) v) 1) (ltb (at (net .kind) v) 4) (fan v h .1)
+  where
+    go : (a b : Bool) → fan-in (graphOf net) v ≤ cond a 0 (cond b 1 8) → fan-in (graphOf net) v ≤ 8
+    go true b l = omega arith
+    go false true l = omega arith
+    go false false l = l
+
 -- ── Rule 7 ──────────────────────────────────────────────────────────────────────────────────
 
 module _ {G : Graph} (w : Wired G) (v fed used : ℕ) (f : Told (eqb fed 1) (From G 0 v)) (u : Told (eqb used 1) (From (reverse G) 1 v)) where
@@ -73,4 +93,7 @@ module _ {G : Graph} (w : Wired G) (v fed used : ℕ) (f : Told (eqb fed 1) (Fro
 -- ── A search ────────────────────────────────────────────────────────────────────────────────
 
 pub sought-lowest : {Rule : ℕ → Type 0} {n q v : ℕ} → v < n → All Rule v → ¬ Rule v → Sought Rule n q (atNode q v)
-sought-lowest {v = v} h a b = found v (record { there = h; breaks = b; before = a }) refl
+sought-lowest {v = v} h a b = here (v, record { there = h; breaks = b; before = a }, refl)
+
+pub sought-none : {Rule : ℕ → Type 0} {n q : ℕ} → All Rule n → Sought Rule n q (value 0)
+sought-none a = past (all-none a) refl

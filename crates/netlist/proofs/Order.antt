@@ -1,16 +1,16 @@
 -- Facts in a row: what a row says is one thing, and it says something.
 --   One, Some, Decided    a fact holds of one answer at most; of one; it is known whether of one
---   else-one, else-some   of a row, from its members
---   first                 the first member's fact decides
---   stops-is, needs-is    rows that compute: an earlier refusal stands; 12, or n
-use Prim.Native.Nat.{ℕ, _<_}
+--   else-one, else-some, else-map    of a row, from its members
+--   first, later          the first member's fact decides; where it holds of nothing, the rest does
+--   given-.., given-at-.., otherwise-one, stops-.., needs-..    the members
+use Prim.Native.Nat.{ℕ, _<_, _≤_}
 use native.Mathlib.Omega.{arith}
-use mathlib.Core.Path.{_≡_, refl, sym, _∙_}
-use mathlib.Core.Bool.{Bool, true, false, cond}
-use mathlib.Core.Logic.{_⊎_, inl, inr, ⊎-elim, _↔_}
-use lib.Dec.{ltb}
-use Rattle.netlist.specs.Answer.{Said, value, refused, whole, andThen, needs}
+use native.Mathlib.Decide.{decLt}
+use mathlib.Core.Path.{_≡_, refl, sym, ap, _∙_}
+use mathlib.Core.Logic.{_⊎_, inl, inr}
+use Rattle.netlist.specs.Answer.{Said, value, refused, whole}
 use Rattle.netlist.specs.Order.{_orElse_, here, past, Given, GivenAt, Otherwise, Stops, Needs}
+use Rattle.netlist.proofs.Fits.{clash}
 
 abbrev pub One : (Said → Type 0) → Type 0
 One F = (s x : Said) → F s → F x → s ≡ x
@@ -20,6 +20,8 @@ Some F = (s : Said) × F s
 
 abbrev pub Decided : (Said → Type 0) → Type 0
 Decided F = Some F ⊎ ((s : Said) → ¬ F s)
+
+-- ── Rows ────────────────────────────────────────────────────────────────────────────────────
 
 module _ {F G : Said → Type 0} where
   pub else-one : One F → One G → One (F orElse G)
@@ -41,12 +43,64 @@ module _ {F G : Said → Type 0} where
   later s n (here a) = absurd (n s a)
   later s n (past m b) = b
 
+  -- A row says no other thing where each of its facts is replaced by one that holds when it does.
+  pub else-map : {F′ G′ : Said → Type 0} → ((x : Said) → F x → F′ x) → ((x : Said) → F′ x → F x) → ((x : Said) → G x → G′ x) → (s : Said) → (F orElse G) s → (F′ orElse G′) s
+  else-map f b g s (here a) = here (f s a)
+  else-map f b g s (past n a) = past (λ x y. n x (b x y)) (g s a)
+
+-- ── Facts ───────────────────────────────────────────────────────────────────────────────────
+
 pub given-one : (P : Type 0) (x : Said) → One (Given P x)
 given-one P x s y (_, a) (_, b) = a ∙ sym b
+
+pub given? : {P : Type 0} (x : Said) → Dec P → Decided (Given P x)
+given? x (yes p) = inl (x, (p, refl))
+given? x (no n) = inr (λ s g. n (g .0))
+
+pub given-map : {P Q : Type 0} {x : Said} → (P → Q) → (s : Said) → Given P x s → Given Q x s
+given-map f s (p, e) = (f p, e)
+
+pub given-at-one : {P : ℕ → Type 0} (x : ℕ → Said) → ((n m : ℕ) → P n → P m → n ≡ m) → One (GivenAt P x)
+given-at-one x f s y (n, p, a) (m, q, b) = a ∙ ap x (f n m p q) ∙ sym b
+
+pub given-at-map : {P Q : ℕ → Type 0} {x : ℕ → Said} → ((n : ℕ) → P n → Q n) → (s : Said) → GivenAt P x s → GivenAt Q x s
+given-at-map f s (n, p, e) = (n, f n p, e)
 
 pub otherwise-one : (x : Said) → One (Otherwise x)
 otherwise-one x s y a b = a ∙ sym b
 
+-- ── An earlier refusal ──────────────────────────────────────────────────────────────────────
+
 pub stops-one : (c : Said) → One (Stops c)
 stops-one (value n) s x a b = absurd a
 stops-one (refused q k p) s x a b = a ∙ sym b
+
+pub stops? : (c : Said) → Decided (Stops c)
+stops? (value n) = inr (λ s a. a)
+stops? (refused q k p) = inl (refused q k p, refl)
+
+-- A row that says a number was not stopped.
+pub stops-value : {G : Said → Type 0} (c : Said) {k : ℕ} → (Stops c orElse G) (value k) → (i : ℕ) × (c ≡ value i) × G (value k)
+stops-value (value i) (here a) = absurd a
+stops-value (value i) (past n b) = (i, refl, b)
+stops-value (refused q k p) (here a) = clash (cc)
+stops-value (refused q k p) (past n b) = absurd (n (refused q k p) refl)
+
+-- ── Room ────────────────────────────────────────────────────────────────────────────────────
+
+pub needs-one : (n m : ℕ) → One (Needs n m)
+needs-one n m = else-one (given-one (m < n) (whole 12)) (otherwise-one (value n))
+
+pub needs-some : (n m : ℕ) → Some (Needs n m)
+needs-some n m = else-some (given? (whole 12) (decLt m n)) (value n, refl)
+
+pub needs-room : {n m k : ℕ} → n ≤ m → k ≡ n → Needs n m (value k)
+needs-room h e = past (λ x g. omega (arith, g .0)) (ap value e)
+
+pub needs-value : {n m k : ℕ} → Needs n m (value k) → (k ≡ n) × (n ≤ m)
+needs-value (here (h, e)) = clash (cc)
+needs-value {n} {m} (past room e) = (cc, go (decLt m n))
+  where
+    go : Dec (m < n) → n ≤ m
+    go (yes h) = absurd (room (whole 12) (h, refl))
+    go (no h) = omega arith

@@ -1,26 +1,20 @@
 -- Rows of a record and lines of a text, one more at a time.
---   below-more          what holds of all below n, and of n
 --   column m f n        m rows: f 0, f 1, … n of them, and 0 in the others
 --   column-in, column-past, column-is    its rows; that a column with 0 past its n-th row is one
---   set-in, set-past    the rows of a column after one more is set
+--   set-past            a column is 0 past its rows after one more is set
+--   rows-length, rows-in, rows-at    n rows of one member each: how many there are; the i-th, whatever stands past them
 --   joined-same         the joined lines depend on the lines that are joined
 --   joined-split        a line and what stands before and after it
 use Prim.Native.Nat.{ℕ, zero, suc, _<_, _≤_}
 use native.Mathlib.Omega.{arith}
 use native.Mathlib.Decide.{ℕ-discrete, decLt}
-use mathlib.Core.Path.{_≡_, refl, sym, ap, ap₂, _∙_, subst}
-use mathlib.Core.List.{List, [], _++_, append-assoc, append-nil}
-use lib.ListN.{length, getD, set, replicate, length-set, length-replicate, getD-replicate, List·getD-eq-default}
-use lib.Seq.{getD-set-same, getD-set-other, ext-getD}
+use mathlib.Core.Path.{_≡_, refl, sym, ap, ap₂, _∙_}
+use mathlib.Core.List.{List, [], _∷_, _++_, append-assoc, append-nil}
+use lib.ListN.{length, getD, set, replicate, length-append, length-set, length-replicate, getD-replicate, List·getD-append, List·getD-eq-default}
+use lib.Seq.{getD-at, getD-set-other, ext-getD}
+use Rattle.graph.proofs.Fills.{fill-more}
 use Rattle.netlist.specs.Net.{zeros}
 use Rattle.netlist.specs.Write.{joined}
-
-pub below-more : (P : ℕ → Type 0) (n : ℕ) → ((i : ℕ) → i < n → P i) → P n → (i : ℕ) → i < suc n → P i
-below-more P n f p i h = go (ℕ-discrete i n)
-  where
-    go : Dec (i ≡ n) → P i
-    go (yes e) = subst P (sym e) p
-    go (no e) = f i (omega arith)
 
 -- ── Columns ─────────────────────────────────────────────────────────────────────────────────
 
@@ -35,10 +29,6 @@ zeros-at m i = go (decLt i m)
     go : Dec (i < m) → getD (zeros m) i 0 ≡ 0
     go (yes h) = getD-replicate m i 0 0 h
     go (no h) = List·getD-eq-default (replicate m 0) 0 (omega (arith, length-replicate {A = ℕ} m 0))
-
-set-in : (xs : List ℕ) (n a : ℕ) (f : ℕ → ℕ) → n < length xs → ((i : ℕ) → i < n → getD xs i 0 ≡ f i) → a ≡ f n
-    → (i : ℕ) → i < suc n → getD (set xs n a) i 0 ≡ f i
-set-in xs n a f h k q = below-more (λ i. getD (set xs n a) i 0 ≡ f i) n (λ i l. getD-set-other xs n i a 0 (omega arith) ∙ k i l) (getD-set-same xs n a 0 h ∙ q)
 
 pub set-past : (xs : List ℕ) (n a : ℕ) → ((i : ℕ) → n ≤ i → getD xs i 0 ≡ 0) → (i : ℕ) → suc n ≤ i → getD (set xs n a) i 0 ≡ 0
 set-past xs n a k i l = getD-set-other xs n i a 0 (omega arith) ∙ k i (omega arith)
@@ -55,7 +45,7 @@ length-column m f (suc n) = length-set (column m f n) n (f n) ∙ length-column 
 pub column-in : (m : ℕ) (f : ℕ → ℕ) (n : ℕ) → n ≤ m → (i : ℕ) → i < n → getD (column m f n) i 0 ≡ f i
 unfolding column
 column-in m f zero h i l = absurd (omega arith)
-column-in m f (suc n) h i l = set-in (column m f n) n (f n) f (omega (arith, length-column m f n)) (column-in m f n (omega arith)) refl i l
+column-in m f (suc n) h i l = fill-more f (column m f n) n (f n) (omega (arith, length-column m f n)) refl (column-in m f n (omega arith)) i (omega arith)
 
 pub column-past : (m : ℕ) (f : ℕ → ℕ) (n i : ℕ) → n ≤ i → getD (column m f n) i 0 ≡ 0
 unfolding column
@@ -79,11 +69,25 @@ unfolding joined
 joined-same f g zero h = refl
 joined-same f g (suc n) h = ap₂ _++_ (joined-same f g n (λ i l. h i (omega arith))) (h n (omega arith))
 
-pub joined-split : (f : ℕ → List ℕ) (n v : ℕ) → v < n → (rest : List ℕ) × (joined f n ≡ joined f v ++ (f v ++ rest))
+pub joined-split : {A : Type 0} (f : ℕ → List A) (n v : ℕ) → v < n → (rest : List A) × (joined f n ≡ joined f v ++ (f v ++ rest))
 unfolding joined
 joined-split f zero v h = absurd (omega arith)
-joined-split f (suc n) v h = go (ℕ-discrete v n) (joined-split f n v)
+joined-split {A} f (suc n) v h = go (ℕ-discrete v n) (joined-split f n v)
   where
-    go : Dec (v ≡ n) → (v < n → (rest : List ℕ) × (joined f n ≡ joined f v ++ (f v ++ rest))) → (rest : List ℕ) × (joined f (suc n) ≡ joined f v ++ (f v ++ rest))
+    go : Dec (v ≡ n) → (v < n → (rest : List A) × (joined f n ≡ joined f v ++ (f v ++ rest))) → (rest : List A) × (joined f (suc n) ≡ joined f v ++ (f v ++ rest))
     go (yes e) r = ([], rw e (simp append-nil))
     go (no e) r = let s = r (omega arith) in (s .0 ++ f n, ap (λ l. l ++ f n) (s .1) ∙ simp append-assoc)
+
+-- ── Rows of one member each, of any kind ────────────────────────────────────────────────────
+
+module _ {A : Type 0} (f : ℕ → A) where
+  pub rows-length : (n : ℕ) → length (joined (λ i. f i ∷ []) n) ≡ n
+  unfolding joined
+  rows-length zero = refl
+  rows-length (suc n) = length-append (joined (λ i. f i ∷ []) n) (f n ∷ []) ∙ omega (arith, rows-length n)
+
+  pub rows-in : (d : A) (n i : ℕ) → i < n → getD (joined (λ i. f i ∷ []) n) i d ≡ f i
+  rows-in d n i h = let s = joined-split (λ i. f i ∷ []) n i h in ap (λ l. getD l i d) (s .1) ∙ getD-at (joined (λ i. f i ∷ []) i) (f i) (s .0) d i (rows-length i)
+
+  pub rows-at : (d : A) (n i : ℕ) (past : List A) → i < n → getD (joined (λ i. f i ∷ []) n ++ past) i d ≡ f i
+  rows-at d n i past h = List·getD-append (joined (λ i. f i ∷ []) n) past d i (omega (arith, rows-length n)) ∙ rows-in d n i h

@@ -15,13 +15,14 @@ use lib.ListN.{length, getD, drop, drop-of-length-le, replicate, length-append, 
 use Rattle.frame.specs.declared.Frame.{Frame}
 use Rattle.frame.specs.Frame.{bad, line, frameAt, numberAt}
 use Rattle.frame.specs.inner.Decoded.{framed}
-use Rattle.frame.proofs.Laws.{framed-bad, framed-line, frame-rest, frame-drop}
+use Rattle.frame.proofs.Laws.{frame-rest, frame-drop}
+use Rattle.frame.proofs.Buffers.{framed-bad, framed-line}
 use Rattle.netlist.specs.declared.Netlist.{Netlist}
 use Rattle.netlist.specs.declared.Answer.{Answer}
 use Rattle.netlist.specs.declared.Answer.the-variants.{Done, Refused}
 use Rattle.netlist.specs.declared.Place.{Place}
 use Rattle.netlist.specs.declared.Place.the-variants.{Line}
-use Rattle.netlist.specs.Answer.{atLine as at-line}
+use Rattle.netlist.specs.Answer.{atLine}
 use Rattle.netlist.specs.inner.Stages.{Goes}
 use Rattle.netlist.specs.Net.{emptyNet, withHead, withNode, withEdge, graphOf}
 use Rattle.rules.specs.Rules.{headFits, nodeFits, edgeFits}
@@ -57,7 +58,7 @@ module _ (k n at : ℕ) (t : List ℕ) (f : Frame) (e : f ≡ framed k n (drop a
 
 -- ── The head ────────────────────────────────────────────────────────────────────────────────
 
-pub head-none : (t : List ℕ) → frameAt 1 7 t ≡ bad → linesOf t ≡ fault (at-line 1 1)
+pub head-none : (t : List ℕ) → frameAt 1 7 t ≡ bad → linesOf t ≡ fault (atLine 1 1)
 unfolding linesOf
 head-none t q = rw q
 
@@ -72,7 +73,7 @@ module _ (t xs : List ℕ) (o : Opened 1 7 0 t xs) (p d n m : ℕ)
         o .same 5 2 (omega arith) ∙ number-two xs 5 (omega arith) ∙ sym hm,
       )
 
-  pub head-wrong : headFits p d n m ≡ false → linesOf t ≡ fault (at-line 2 1)
+  pub head-wrong : headFits p d n m ≡ false → linesOf t ≡ fault (atLine 2 1)
   unfolding linesOf
   head-wrong q = let h = head-numbers in rw (o .reads, h .0, h .1, h .2, h .3, q)
 
@@ -84,7 +85,7 @@ module _ (t xs : List ℕ) (o : Opened 1 7 0 t xs) (p d n m : ℕ)
 
 -- Node i of m more, on line 2 + i.
 module _ (t : List ℕ) (at m i : ℕ) (net : Netlist) where
-  pub node-none : frameAt 2 2 (drop at t) ≡ bad → nodesFrom (suc m) i (2 + i) (drop at t) net ≡ fault (at-line 1 (2 + i))
+  pub node-none : frameAt 2 2 (drop at t) ≡ bad → nodesFrom (suc m) i (2 + i) (drop at t) net ≡ fault (atLine 1 (2 + i))
   unfolding nodesFrom
   node-none q = rw q
 
@@ -94,7 +95,7 @@ module _ (t : List ℕ) (at m i : ℕ) (net : Netlist) where
         let w = o .wide in
         (o .same 0 1 (omega arith) ∙ number-one xs 0 (omega arith), o .same 1 1 (omega arith) ∙ number-one xs 1 (omega arith))
 
-    pub node-wrong : nodeFits (getD xs 0 0) (getD xs 1 0) ≡ false → nodesFrom (suc m) i (2 + i) (drop at t) net ≡ fault (at-line 3 (2 + i))
+    pub node-wrong : nodeFits (getD xs 0 0) (getD xs 1 0) ≡ false → nodesFrom (suc m) i (2 + i) (drop at t) net ≡ fault (atLine 3 (2 + i))
     unfolding nodesFrom
     node-wrong q = let h = node-numbers in rw (o .reads, h .0, h .1, q)
 
@@ -107,7 +108,7 @@ module _ (t : List ℕ) (at m i : ℕ) (net : Netlist) where
 
 -- Edge e of m more, on line b + e.
 module _ (t : List ℕ) (at m e b : ℕ) (net : Netlist) where
-  pub edge-none : frameAt 3 9 (drop at t) ≡ bad → edgesFrom (suc m) e (b + e) (drop at t) net ≡ fault (at-line 1 (b + e))
+  pub edge-none : frameAt 3 9 (drop at t) ≡ bad → edgesFrom (suc m) e (b + e) (drop at t) net ≡ fault (atLine 1 (b + e))
   unfolding edgesFrom
   edge-none q = rw q
 
@@ -123,7 +124,7 @@ module _ (t : List ℕ) (at m e b : ℕ) (net : Netlist) where
           o .same 5 4 (omega arith) ∙ number-four xs 5 (omega arith) ∙ sym hs,
         )
 
-    pub edge-wrong : edgeFits (net .nodes) (graphOf net .kind) u v w s ≡ false → edgesFrom (suc m) e (b + e) (drop at t) net ≡ fault (at-line 4 (b + e))
+    pub edge-wrong : edgeFits (net .nodes) (graphOf net .kind) u v w s ≡ false → edgesFrom (suc m) e (b + e) (drop at t) net ≡ fault (atLine 4 (b + e))
     unfolding edgesFrom
     edge-wrong q = let h = edge-numbers in rw (o .reads, h .0, h .1, h .2, h .3, q)
 
@@ -135,7 +136,7 @@ module _ (t : List ℕ) (at m e b : ℕ) (net : Netlist) where
 -- ── The ends of a stage ─────────────────────────────────────────────────────────────────────
 
 pub goes-fault : {a : Answer} {q n : ℕ} {whole : Lines} (rest : Lines) {net : Netlist}
-    → a ≡ Refused q (Line n) → net ≡ emptyNet → whole ≡ fault (at-line q n) → Goes a whole rest net
+    → a ≡ Refused q (Line n) → net ≡ emptyNet → whole ≡ fault (atLine q n) → Goes a whole rest net
 goes-fault {whole = whole} rest {net} e h w = subst (λ a. Goes a whole rest net) (sym e) (w, h)
 
 pub empty-sizes : {net : Netlist} → net ≡ emptyNet → (net .nodes ≤ 512) × (net .edges ≤ 1024)
@@ -156,7 +157,7 @@ module _ (a : Answer) (whole rest : Lines) (net : Netlist) where
   goes-end e g = subst (λ b. Goes b whole rest net) (sym e) g
 
 module _ (t : List ℕ) (at n : ℕ) (net : Netlist) where
-  pub ends-surplus : at < length t → nothingMore (drop at t) n net ≡ fault (at-line 1 n)
+  pub ends-surplus : at < length t → nothingMore (drop at t) n net ≡ fault (atLine 1 n)
   ends-surplus h = rw (drop-cons t at 0 h)
 
   pub ends-none : length t ≤ at → nothingMore (drop at t) n net ≡ lines net

@@ -17,7 +17,8 @@ use borrow.Author.Tests.{le-leb, lt-leb}
 use lib.ListN.{length, take, drop, length-append}
 use lib.Seq.{sets, sets-eq, length-sets, take-at}
 use Rattle.frame.specs.Frame.{bytesOf, placed}
-use Rattle.frame.proofs.Laws.{length-line, placed-room, sets-sets}
+use Rattle.frame.proofs.Laws.{length-line}
+use Rattle.frame.proofs.Buffers.{placed-room, sets-sets}
 use Rattle.netlist.specs.declared.Netlist.{Netlist}
 use Rattle.netlist.specs.Write.{headLine, nodeLine, edgeLine, joined, textOf, textIn}
 

@@ -1,4 +1,5 @@
 -- The netlist record: a row of each kind put in, and the circuit that it stands for.
+--   netWith                                   the record with these fields
 --   emptyNet, withHead, withNode, withEdge    the record as reading fills it
 --   graphOf, regsOf, delayOf                  the theory's graph and registers, and the working delays
 use mathlib.Core.List.{List}
@@ -13,51 +14,24 @@ use Rattle.netlist.specs.declared.Netlist.{Netlist}
 unfoldable pub zeros : ℕ → List ℕ
 zeros n = replicate n 0
 
+-- A netlist by its fields, in their order.
+abbrev pub netWith : ℕ → ℕ → ℕ → ℕ → List ℕ → List ℕ → List ℕ → List ℕ → List ℕ → List ℕ → Netlist
+netWith p d n e k l u v w s = record { period = p; derate = d; nodes = n; edges = e; kind = k; delay = l; from = u; to = v; count = w; start = s }
+
 -- "reading makes them 0"
 unfoldable pub withHead : ℕ → ℕ → ℕ → ℕ → Netlist
-withHead p d n e = record {
-  period = p;
-  derate = d;
-  nodes = n;
-  edges = e;
-  kind = zeros 512;
-  delay = zeros 512;
-  from = zeros 1024;
-  to = zeros 1024;
-  count = zeros 1024;
-  start = zeros 1024;
-}
+withHead p d n e = netWith p d n e (zeros 512) (zeros 512) (zeros 1024) (zeros 1024) (zeros 1024) (zeros 1024)
 
 abbrev pub emptyNet : Netlist
 emptyNet = withHead 0 0 0 0
 
 abbrev pub withNode : Netlist → ℕ → ℕ → ℕ → Netlist
-withNode net i k d = record {
-  period = net .period;
-  derate = net .derate;
-  nodes = net .nodes;
-  edges = net .edges;
-  kind = set (net .kind) i k;
-  delay = set (net .delay) i d;
-  from = net .from;
-  to = net .to;
-  count = net .count;
-  start = net .start;
-}
+withNode net i k d =
+    netWith (net .period) (net .derate) (net .nodes) (net .edges) (set (net .kind) i k) (set (net .delay) i d) (net .from) (net .to) (net .count) (net .start)
 
 abbrev pub withEdge : Netlist → ℕ → ℕ → ℕ → ℕ → ℕ → Netlist
-withEdge net e u v w s = record {
-  period = net .period;
-  derate = net .derate;
-  nodes = net .nodes;
-  edges = net .edges;
-  kind = net .kind;
-  delay = net .delay;
-  from = set (net .from) e u;
-  to = set (net .to) e v;
-  count = set (net .count) e w;
-  start = set (net .start) e s;
-}
+withEdge net e u v w s =
+    netWith (net .period) (net .derate) (net .nodes) (net .edges) (net .kind) (net .delay) (set (net .from) e u) (set (net .to) e v) (set (net .count) e w) (set (net .start) e s)
 
 abbrev pub graphOf : Netlist → Graph
 graphOf net = columnGraph (net .nodes) (net .edges) (net .kind) (net .from) (net .to)

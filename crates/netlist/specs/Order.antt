@@ -10,7 +10,6 @@ use Prim.Native.Nat.{ℕ, _<_}
 use Rattle.netlist.specs.Answer.{Said, value, refused, whole}
 
 infixr 1 _orElse_
-
 pub data _orElse_ (F G : Said → Type 0) (s : Said) : Type 0 where
   here : F s → (F orElse G) s
   past : ((x : Said) → ¬ F x) → G s → (F orElse G) s

@@ -13,6 +13,7 @@ use Rattle.theory.specs.Graph.{Graph}
 use Rattle.theory.specs.Walk.{Loop, FromInput, ToOutput}
 use Rattle.netlist.specs.declared.Netlist.{Netlist}
 use Rattle.netlist.specs.Answer.{Said, value, refused, whole, atLine, atNode}
+use Rattle.netlist.specs.Order.{_orElse_, Given, GivenAt, Otherwise}
 use Rattle.netlist.specs.Net.{emptyNet, withHead, withNode, withEdge, graphOf, regsOf}
 use Rattle.rules.specs.Rules.{ruleOf, headFits, nodeFits, edgeFits}
 use Rattle.graph.specs.Columns.{fan-in}
@@ -76,13 +77,12 @@ pub record Lowest (Rule : ℕ → Type 0) (n v : ℕ) : Type 0 where
   pub before : All Rule v
 
 -- "then 5, 6, 7". What reading says where it refuses nothing is 0, as it writes no bytes.
-pub data Judged (net : Netlist) (s : Said) : Type 0 where
-  five : (v : ℕ) → Lowest (FanInFits (graphOf net)) (net .nodes) v → s ≡ atNode 5 v → Judged net s
-  six : All (FanInFits (graphOf net)) (net .nodes) → Loop (graphOf net) (regsOf net .count) → s ≡ whole 6 → Judged net s
-  seven : All (FanInFits (graphOf net)) (net .nodes) → ¬ Loop (graphOf net) (regsOf net .count)
-      → (v : ℕ) → Lowest (InReach (graphOf net)) (net .nodes) v → s ≡ atNode 7 v → Judged net s
-  sound : All (FanInFits (graphOf net)) (net .nodes) → ¬ Loop (graphOf net) (regsOf net .count)
-      → All (InReach (graphOf net)) (net .nodes) → s ≡ value 0 → Judged net s
+abbrev pub Judged : Netlist → Said → Type 0
+Judged net =
+    GivenAt (Lowest (FanInFits (graphOf net)) (net .nodes)) (atNode 5)
+    orElse Given (Loop (graphOf net) (regsOf net .count)) (whole 6)
+    orElse GivenAt (Lowest (InReach (graphOf net)) (net .nodes)) (atNode 7)
+    orElse Otherwise (value 0)
 
 -- A refusal gives an empty record.
 abbrev pub kept : Said → Netlist → Netlist

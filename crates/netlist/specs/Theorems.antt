@@ -1,6 +1,8 @@
 -- The theorems of reading and writing, beside the calls' own contracts. Each is a type; proofs/theorems has a term of it.
 --   SomeReading, OneReading                every text has exactly one outcome
 --   SomeWriting, OneWriting                a record has exactly one writing into each buffer
+--   headTest, nodeTest, edgeTest           a line of a record keeps its rule
+--   Fit, Clean                             all its lines do; the rows past them are 0
 --   LinesFact, FaultFact, FaultPlace       when the lines are right, and which line is refused with which number
 --   RefusalFacts                           when 5, 6, 7 and nothing is given
 --   MoreDecidesNothing                     bytes past the 25,106th are read by nothing
@@ -11,7 +13,7 @@
 --   RoundTripText, RoundTripNetlist        demand 2
 --   RecordRowsUnread                       rows past the netlist's are read by nothing
 use mathlib.Core.Path.{_≡_}
-use mathlib.Core.Bool.{true, false}
+use mathlib.Core.Bool.{Bool, true, false}
 use mathlib.Core.Logic.{_↔_}
 use mathlib.Core.List.{List, [], _++_}
 use Prim.Native.Nat.{ℕ, _+_, _<_, _≤_}
@@ -21,7 +23,7 @@ use Rattle.theory.specs.Walk.{Loop}
 use Rattle.theory.specs.Gate.{gate}
 use Rattle.theory.specs.Retimer.{Sound}
 use Rattle.netlist.specs.declared.Netlist.{Netlist}
-use Rattle.netlist.specs.Answer.{Said, value, whole, atNode, atLine as at-line}
+use Rattle.netlist.specs.Answer.{Said, value, whole, atNode, atLine}
 use Rattle.netlist.specs.Net.{graphOf, regsOf}
 use Rattle.rules.specs.Rules.{headFits, nodeFits, edgeFits}
 use Rattle.netlist.specs.Read.{FanInFits, fault, lines, linesOf, InReach, All, Lowest, Judged, Reads}
@@ -45,23 +47,34 @@ OneWriting = (net : Netlist) (old : List ℕ) (s s′ : Said) (new new′ : List
 
 -- ── Each number is given exactly when its fact holds and no earlier one does ────────────────
 
--- The head, the first n nodes and the first m edges keep the rules 2, 3 and 4.
+-- A record's head, node v and edge e keep their rules: 2, 3 and 4.
+abbrev pub headTest : Netlist → Bool
+headTest net = headFits (net .period) (net .derate) (net .nodes) (net .edges)
+
+abbrev pub nodeTest : Netlist → ℕ → Bool
+nodeTest net v = nodeFits (getD (net .kind) v 0) (getD (net .delay) v 0)
+
+abbrev pub edgeTest : Netlist → ℕ → Bool
+edgeTest net e = edgeFits (net .nodes) (graphOf net .kind) (getD (net .from) e 0) (getD (net .to) e 0) (getD (net .count) e 0) (getD (net .start) e 0)
+
+-- The head, the first n nodes and the first m edges do.
 pub record FitTo (net : Netlist) (n m : ℕ) : Type 0 where
-  pub head : headFits (net .period) (net .derate) (net .nodes) (net .edges) ≡ true
-  pub node : (v : ℕ) → v < n → nodeFits (getD (net .kind) v 0) (getD (net .delay) v 0) ≡ true
-  pub edge : (e : ℕ) → e < m
-      → edgeFits (net .nodes) (graphOf net .kind) (getD (net .from) e 0) (getD (net .to) e 0) (getD (net .count) e 0) (getD (net .start) e 0) ≡ true
+  pub head : headTest net ≡ true
+  pub node : (v : ℕ) → v < n → nodeTest net v ≡ true
+  pub edge : (e : ℕ) → e < m → edgeTest net e ≡ true
 
 abbrev pub Fit : Netlist → Type 0
 Fit net = FitTo net (net .nodes) (net .edges)
 
--- "record rows past them are … made 0": columns of 512 and 1,024 rows, 0 from the N-th and the E-th on.
-pub record Clean (net : Netlist) : Type 0 where
+-- "record rows past them are … made 0": columns of 512 and 1,024 rows, 0 from row n of the nodes and row m of the edges on.
+pub record CleanTo (net : Netlist) (n m : ℕ) : Type 0 where
   pub kinds : (length (net .kind) ≡ 512) × (length (net .delay) ≡ 512)
   pub ends : (length (net .from) ≡ 1024) × (length (net .to) ≡ 1024) × (length (net .count) ≡ 1024) × (length (net .start) ≡ 1024)
-  pub node : (v : ℕ) → net .nodes ≤ v → (getD (net .kind) v 0 ≡ 0) × (getD (net .delay) v 0 ≡ 0)
-  pub edge : (e : ℕ) → net .edges ≤ e
-      → (getD (net .from) e 0 ≡ 0) × (getD (net .to) e 0 ≡ 0) × (getD (net .count) e 0 ≡ 0) × (getD (net .start) e 0 ≡ 0)
+  pub node : (v : ℕ) → n ≤ v → (getD (net .kind) v 0 ≡ 0) × (getD (net .delay) v 0 ≡ 0)
+  pub edge : (e : ℕ) → m ≤ e → (getD (net .from) e 0 ≡ 0) × (getD (net .to) e 0 ≡ 0) × (getD (net .count) e 0 ≡ 0) × (getD (net .start) e 0 ≡ 0)
+
+abbrev pub Clean : Netlist → Type 0
+Clean net = CleanTo net (net .nodes) (net .edges)
 
 -- No line has a fault exactly where the text is that of a netlist whose lines keep the rules.
 abbrev pub LinesFact : Type 0
@@ -89,11 +102,11 @@ pub data FaultAt (t : List ℕ) : ℕ → ℕ → Type 0 where
   surplus : (net : Netlist) (rest : List ℕ) → FitTo net (net .nodes) (net .edges) → t ≡ textOf net ++ rest → ¬ (rest ≡ []) → FaultAt t 1 (net .nodes + net .edges + 2)
 
 abbrev pub FaultFact : Type 0
-FaultFact = (t : List ℕ) (q n : ℕ) → (linesOf t ≡ fault (at-line q n)) ↔ FaultAt t q n
+FaultFact = (t : List ℕ) (q n : ℕ) → (linesOf t ≡ fault (atLine q n)) ↔ FaultAt t q n
 
 -- A fault of the lines is always at a line.
 abbrev pub FaultPlace : Type 0
-FaultPlace = (t : List ℕ) (s : Said) → linesOf t ≡ fault s → (q : ℕ) × (n : ℕ) × (s ≡ at-line q n) × FaultAt t q n
+FaultPlace = (t : List ℕ) (s : Said) → linesOf t ≡ fault s → (q : ℕ) × (n : ℕ) × (s ≡ atLine q n) × FaultAt t q n
 
 -- 5, 6, 7 and success, of a text whose lines have no fault.
 pub record WholeFacts (t : List ℕ) (s : Said) (net read : Netlist) (h : linesOf t ≡ lines read) (r : Reads t s net) : Type 0 where
@@ -131,20 +144,18 @@ pub record Typed (net : Netlist) : Type 0 where
 -- "check 2 to 7 as if its lines were read": a record's lines are never refused 1, and are refused nothing exactly where they keep the rules.
 abbrev pub RecordFact : Type 0
 RecordFact = (net : Netlist) → Typed net
-    → ((n : ℕ) → ¬ (linesOf (textOf net) ≡ fault (at-line 1 n)))
+    → ((n : ℕ) → ¬ (linesOf (textOf net) ≡ fault (atLine 1 n)))
     × (((back : Netlist) × (linesOf (textOf net) ≡ lines back)) ↔ Fit net)
     × ((back : Netlist) → linesOf (textOf net) ≡ lines back → Same net back × Clean back)
 
 -- The first line of a record that breaks its rule: 2, 3 or 4, and its number.
 pub data RecordFault (net : Netlist) : ℕ → ℕ → Type 0 where
-  bad-head : headFits (net .period) (net .derate) (net .nodes) (net .edges) ≡ false → RecordFault net 2 1
-  bad-node : (v : ℕ) → FitTo net v 0 → v < net .nodes → nodeFits (getD (net .kind) v 0) (getD (net .delay) v 0) ≡ false → RecordFault net 3 (v + 2)
-  bad-edge : (e : ℕ) → FitTo net (net .nodes) e → e < net .edges
-      → edgeFits (net .nodes) (graphOf net .kind) (getD (net .from) e 0) (getD (net .to) e 0) (getD (net .count) e 0) (getD (net .start) e 0) ≡ false
-      → RecordFault net 4 (net .nodes + e + 2)
+  bad-head : headTest net ≡ false → RecordFault net 2 1
+  bad-node : (v : ℕ) → FitTo net v 0 → v < net .nodes → nodeTest net v ≡ false → RecordFault net 3 (v + 2)
+  bad-edge : (e : ℕ) → FitTo net (net .nodes) e → e < net .edges → edgeTest net e ≡ false → RecordFault net 4 (net .nodes + e + 2)
 
 abbrev pub RecordFaults : Type 0
-RecordFaults = (net : Netlist) → Typed net → (q n : ℕ) → (linesOf (textOf net) ≡ fault (at-line q n)) ↔ RecordFault net q n
+RecordFaults = (net : Netlist) → Typed net → (q n : ℕ) → (linesOf (textOf net) ≡ fault (atLine q n)) ↔ RecordFault net q n
 
 -- Of a record whose lines keep their rules, 5, 6, 7 or nothing is said as they hold of the record itself.
 abbrev pub RecordJudged : Type 0

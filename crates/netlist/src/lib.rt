@@ -1,10 +1,14 @@
 // Netlists: the record, answers, reading and writing. The promises are in specs/: Read, Write, Theorems.
+use graph::EDGES;
+use graph::NODES;
 
 mod judging;
 mod lines;
+mod rewriting;
 mod writing;
 
 pub use lines::read;
+pub use rewriting::rewrite;
 pub use writing::check;
 pub use writing::put_text;
 pub use writing::write;
@@ -16,12 +20,12 @@ pub struct Netlist {
     pub derate: u8,
     pub nodes: u16,
     pub edges: u16,
-    pub kind: [u8; 512],
-    pub delay: [u8; 512],
-    pub from: [u16; 1024],
-    pub to: [u16; 1024],
-    pub count: [u8; 1024],
-    pub start: [u32; 1024],
+    pub kind: [u8; NODES],
+    pub delay: [u8; NODES],
+    pub from: [u16; EDGES],
+    pub to: [u16; EDGES],
+    pub count: [u8; EDGES],
+    pub start: [u32; EDGES],
 }
 
 // "A refusal names its place: a line, a node, an edge or the whole."

@@ -1,7 +1,9 @@
 // Reading: the lines in turn, each at a cursor, filling the record row by row; then rules 5, 6 and 7.
+use graph::EDGES;
+use graph::NODES;
 ghost use mathlib.Core.Path.{_≡_};
 ghost use Prim.Native.Nat.{_+_, _*_, _≤_};
-ghost use lib.ListN.{drop};
+ghost use lib.ListN.{getD, drop};
 ghost use Rattle.netlist.specs.Answer.{says};
 ghost use Rattle.netlist.specs.inner.Stages.{Goes, Lined};
 ghost use Rattle.netlist.specs.Net.{emptyNet, withHead};
@@ -31,12 +33,12 @@ pub fn with_head(period: u16, derate: u8, nodes: u16, edges: u16) -> Netlist
         derate,
         nodes,
         edges,
-        kind: [0; 512],
-        delay: [0; 512],
-        from: [0; 1024],
-        to: [0; 1024],
-        count: [0; 1024],
-        start: [0; 1024],
+        kind: [0; NODES],
+        delay: [0; NODES],
+        from: [0; EDGES],
+        to: [0; EDGES],
+        count: [0; EDGES],
+        start: [0; EDGES],
     }
 }
 
@@ -121,6 +123,26 @@ fn read_nodes(text: &[u8], at0: usize, net0: Netlist) -> Filled
     }
 }
 
+// The numbers in an edge line's bytes.
+struct EdgeRow {
+    from: u16,
+    to: u16,
+    count: u8,
+    start: u32,
+}
+
+fn edge_row(b: [u8; 16]) -> EdgeRow
+    ensures { λ r. ⌜ (r .from ≡ getD b 0 0 * 256 + getD b 1 0) × (r .to ≡ getD b 2 0 * 256 + getD b 3 0) × (r .count ≡ getD b 4 0) ⌝ }
+    ensures { λ r. ⌜ r .start ≡ (getD b 5 0 * 256 + getD b 6 0) * 65536 + (getD b 7 0 * 256 + getD b 8 0) ⌝ }
+{
+    EdgeRow {
+        from: pair(b[0], b[1]),
+        to: pair(b[2], b[3]),
+        count: b[4],
+        start: quad(pair(b[5], b[6]), pair(b[7], b[8])),
+    }
+}
+
 // The edge lines from the cursor `at0`, after as many node lines as the head says.
 fn read_edges(text: &[u8], at0: usize, net0: Netlist) -> Filled
     requires { ⌜ (net0 .nodes ≤ 512) × (net0 .edges ≤ 1024) ⌝ }
@@ -139,16 +161,14 @@ fn read_edges(text: &[u8], at0: usize, net0: Netlist) -> Filled
             return fault(1, first + e);
         }
         let b = f.bytes;
-        let u = pair(b[0], b[1]);
-        let v = pair(b[2], b[3]);
-        let s = quad(pair(b[5], b[6]), pair(b[7], b[8]));
-        if !edge_fits(&net.kind, nodes, u, v, b[4], s) {
+        let row = edge_row(b);
+        if !edge_fits(&net.kind, nodes, row.from, row.to, row.count, row.start) {
             return fault(4, first + e);
         }
-        net.from[e] = u;
-        net.to[e] = v;
-        net.count[e] = b[4];
-        net.start[e] = s;
+        net.from[e] = row.from;
+        net.to[e] = row.to;
+        net.count[e] = row.count;
+        net.start[e] = row.start;
         at += 21;
         e += 1;
     }

@@ -1,4 +1,6 @@
 // Writing: the lines of a record, one after the other at a cursor.
+use graph::EDGES;
+use graph::NODES;
 ghost use mathlib.Core.Bool.{true};
 ghost use mathlib.Core.List.{[], _∷_, _++_};
 ghost use mathlib.Core.Path.{_≡_};
@@ -105,15 +107,22 @@ fn text_len(net: Netlist) -> usize
     17 + 7 * (net.nodes as usize) + 21 * (net.edges as usize)
 }
 
+const MOST_NODES: u16 = NODES as u16;
+
+const MOST_EDGES: u16 = EDGES as u16;
+
+// The longest text: a head of 17 bytes, nodes of 7 each, edges of 21 each.
+const LONGEST: usize = 17 + 7 * NODES + 21 * EDGES;
+
 // The text at the front of `out`, where the record has its rows and there is room; how many bytes that took, 0 where it left `out`.
 pub fn put_text(net: Netlist, out: &mut [u8]) -> usize
     ensures { λ r. ⌜ now (out .exit) ≡ sets (now (out .entry)) 0 (textIn net (length (now (out .entry)))) ⌝ }
     ensures { λ r. ⌜ r ≡ length (textIn net (length (now (out .entry)))) ⌝ }
 {
-    if 512 < net.nodes {
+    if MOST_NODES < net.nodes {
         return 0;
     }
-    if 1024 < net.edges {
+    if MOST_EDGES < net.edges {
         return 0;
     }
     if out.len() < text_len(net) {
@@ -130,7 +139,7 @@ fn reread(net: Netlist) -> Reading
     requires { ⌜ headFits (net .period) (net .derate) (net .nodes) (net .edges) ≡ true ⌝ }
     ensures { λ r. ⌜ Reads (textOf net) (says (r .answer)) (r .net) ⌝ }
 {
-    let mut text = [0u8; 25105];
+    let mut text = [0u8; LONGEST];
     let n = put_text(net, &mut text);
     read(&text[..n])
 }

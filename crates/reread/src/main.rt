@@ -3,10 +3,13 @@
 use libc::STDIN_FILENO;
 use libc::STDOUT_FILENO;
 
+// "a text of up to 32,768 bytes (more decides nothing)".
+const LONGEST: usize = 32768;
+
 fn main() {
-    let mut text = [0u8; 32768];
+    let mut text = [0u8; LONGEST];
     let n = io::read_full(STDIN_FILENO, &mut text);
-    let mut out = [0u8; 32768];
-    let m = show::reread(&text[..n], &mut out);
+    let mut out = [0u8; LONGEST];
+    let m = printing::reread(&text[..n], &mut out);
     io::write_all(STDOUT_FILENO, &out[..m]);
 }

@@ -1,8 +1,10 @@
 -- The laws of retiming texts.
--- The ends of a call, in their order.
-pub mod Ends
--- From what the call found to what it says.
-pub mod Answers
+-- The order of its refusals.
+pub mod Order
+-- A call and its row.
+pub mod Call
+-- From what a stage found to what it promises.
+pub mod Stages
 -- The bench cards as texts.
 pub mod cards
 -- The theorems of specs/Theorems, and the cards.

@@ -3,3 +3,5 @@ pub mod Retime
 pub mod Demand
 pub mod Theorems
 pub mod Card
+-- What functions promise each other.
+pub mod inner

@@ -1,7 +1,7 @@
 -- What is to be proved of retiming, beside the call. Each is a type; proofs/theorems has a term of it.
 --   SameLength, MovedReads    the new text is as long as the old one, and it reads
 --   SomeOutcome, OneOutcome   no answer is free
---   RefusalFacts, UnreadFact  each number is given exactly when its fact holds and no earlier one does
+--   RetimeRefusals, UnreadFact  each number is given exactly when its fact holds and no earlier one does
 --   NothingTouched            a refusal leaves all that was lent
 --   DemandFollows             demand 3 follows from the outcome
 --   LagsFit                   two bytes hold every lag that comes back
@@ -47,8 +47,8 @@ pub record RetimeFacts (t out : List ℕ) (lags : List ℤ) (s : Said) (net : Ne
   pub ten : Room t out lags net → (r : ℕ → ℤ) → LeastLags net r → (s ≡ whole 10) ↔ (NarrowAt net r × ManyAt net r)
   pub eleven : Room t out lags net → (r : ℕ → ℤ) → LeastLags net r → NarrowAt net r → ¬ ManyAt net r → (s ≡ whole 11) ↔ StartlessAt net r
 
-abbrev pub RefusalFacts : Type 0
-RefusalFacts = (t out : List ℕ) (lags : List ℤ) (s : Said) (out′ : List ℕ) (lags′ : List ℤ) (net : Netlist)
+abbrev pub RetimeRefusals : Type 0
+RetimeRefusals = (t out : List ℕ) (lags : List ℤ) (s : Said) (out′ : List ℕ) (lags′ : List ℤ) (net : Netlist)
     → Reads t (value 0) net → Retimes t out lags s out′ lags′ → RetimeFacts t out lags s net
 
 -- A text that does not read is refused as reading refuses it.

@@ -1,12 +1,14 @@
 -- The theorems of specs/Theorems.
 --   one-meaning                          an answer's number tells it
 --   one-read-call, one-check-call, ..    each call has one outcome at most, as the call under it has
-use mathlib.Core.Path.{_≡_, sym, ap, ap₂, _∙_}
+use mathlib.Core.Path.{_≡_, sym, ap, ap₂, _∙_, subst}
 use Prim.Native.Nat.{ℕ, _+_, _*_, _<_}
 use native.Mathlib.Omega.{arith}
 use lib.ListN.{length}
-use Rattle.netlist.specs.Answer.{Said, value, refused, andThen, needs, holds}
+use Rattle.netlist.specs.Answer.{Said, value, refused, holds}
+use Rattle.netlist.specs.Order.{_orElse_, Stops, Needs}
 use Rattle.netlist.specs.Write.{textOf}
+use Rattle.netlist.proofs.Order.{else-one, stops-one, needs-one}
 use Rattle.netlist.proofs.theorems.One.{one-reading, one-writing}
 use Rattle.simulate.proofs.theorems.One.{one-run, one-step}
 use Rattle.retime.proofs.theorems.Outcome.{one-outcome}
@@ -70,5 +72,7 @@ one-retime-call t out lags r r′ new new′ lags′ lags″ (s, (w, d), coded) 
 pub one-reread-call : OneRereadCall
 one-reread-call t out r r′ new new′ (s, w, coded) (s′, w′, coded′) =
     let e = one-reading t (w .said) (w′ .said) (w .net) (w′ .net) (w .reads) (w′ .reads) in
-    let f : s ≡ s′ = w .answer ∙ ap (λ c. andThen c (needs (length t) (length out))) (e .0) ∙ sym (w′ .answer) in
+    let n = length t in
+    let m = length out in
+    let f : s ≡ s′ = else-one (stops-one (w′ .said)) (needs-one n m) s s′ (subst (λ c. (Stops c orElse Needs n m) s) (e .0) (w .answer)) (w′ .answer) in
     (coded-alike f coded coded′, w .buffer ∙ ap (λ c. holds c t out) f ∙ sym (w′ .buffer))

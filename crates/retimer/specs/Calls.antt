@@ -14,13 +14,12 @@ use lib.IntN.{ℤ}
 use Rattle.netlist.specs.declared.Netlist.{Netlist}
 use Rattle.netlist.specs.Answer.{Said, value, refused}
 use Rattle.netlist.specs.Read.{Reads}
-use Rattle.netlist.specs.Write.{Writes, textOf}
+use Rattle.netlist.specs.Write.{textOf, Writes, Rewrites}
 use Rattle.simulate.specs.declared.Machine.{Machine}
 use Rattle.simulate.specs.Step.{Steps}
 use Rattle.simulate.specs.Run.{Runs}
 use Rattle.retime.specs.Retime.{Retimes}
 use Rattle.retime.specs.Demand.{Demand3}
-use Rattle.show.specs.Shown.{Rewrites}
 use Rattle.retimer.specs.Code.{Coded}
 
 -- What a lent record holds after reading: what was read, or after a refusal what it held ("nothing lent is touched").
@@ -31,7 +30,7 @@ putBack (refused q k p) read old = old
 abbrev pub ReadCall : List ℕ → Netlist → ℕ → Netlist → Type 0
 ReadCall t net r net′ = Coded (λ s. (read : Netlist) × Reads t s read × (net′ ≡ putBack s read net)) r
 
--- "WriteCall and stepping take a netlist record and check 2 to 7 as if its lines were read." This is that check alone.
+-- "Writing and stepping take a netlist record and check 2 to 7 as if its lines were read." This is that check alone.
 abbrev pub CheckCall : Netlist → ℕ → Type 0
 CheckCall net r = Coded (λ s. (same : Netlist) × Reads (textOf net) s same) r
 

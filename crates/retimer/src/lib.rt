@@ -78,6 +78,6 @@ pub extern "C" fn retimer_retime(text: &[u8], out: &mut [u8], lags: &mut [i32]) 
 pub extern "C" fn retimer_reread(text: &[u8], out: &mut [u8]) -> u64
     ensures { λ r. ⌜ RereadCall (now (text .entry)) (now (out .entry)) r (now (out .exit)) ⌝ }
 {
-    let a = show::rewrite(text, out);
+    let a = netlist::rewrite(text, out);
     answer_code(a)
 }

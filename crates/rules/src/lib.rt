@@ -89,6 +89,11 @@ fn rule_of(kind: u8) -> Rule
     RULES[i]
 }
 
+// "N 2 to 512, E 1 to 1,024."
+const NODES: u16 = 512;
+
+const EDGES: u16 = 1024;
+
 // Rule 2.
 pub fn head_fits(period: u16, derate: u8, nodes: u16, edges: u16) -> bool
     ensures { λ r. ⌜ r ≡ headFits period derate nodes edges ⌝ }
@@ -105,13 +110,13 @@ pub fn head_fits(period: u16, derate: u8, nodes: u16, edges: u16) -> bool
     if nodes < 2 {
         return false;
     }
-    if 512 < nodes {
+    if NODES < nodes {
         return false;
     }
     if edges < 1 {
         return false;
     }
-    edges <= 1024
+    edges <= EDGES
 }
 
 // Rule 3.

@@ -5,11 +5,11 @@
 --   ranked              the dues of the levels below m among the first n: first those of level 0, then those of level 1, …
 --   ranked-more         one level more
 --   ranked-room         there are never more than n
---   Ranked              what stands at one of its places: a due of a level below m
+--   Ranked              what is at one of its places: a due of a level below m
 --   ranked-place        each place holds one
 --   ranked-grows        more levels, no fewer dues
 --   ranked-first        more levels leave the places of the lower ones
---   ranked-holds        every due of a level below m stands at some place
+--   ranked-holds        every due of a level below m is at some place
 -- By the laws of items sorted by key: the items are the places of the dues, the keys their levels.
 use Prim.Native.Nat.{ℕ, zero, suc, _+_, _-_, _/_, _≤_, _<_}
 use native.Mathlib.Omega.{arith}
@@ -23,6 +23,7 @@ use Rattle.theory.specs.Clock.{gather}
 use Rattle.graph.specs.Columns.{at}
 use Rattle.graph.specs.inner.Sort.{group, sorted, Stands}
 use Rattle.graph.proofs.Sorted.{group-hit, group-miss, sorted-prefix, sorted-grows, sorted-place, sorted-holds, sorted-room}
+use Rattle.graph.proofs.Parts.{map-at}
 use Rattle.gates.specs.inner.Gates.{part}
 use Rattle.search.specs.inner.Rows.{ofLevel}
 
@@ -77,11 +78,6 @@ module _ (level : List ℕ) (m : ℕ) where
 -- The level of what each due asks.
 abbrev keys : List ℕ → List ℕ → List ℕ
 keys level due = map (λ y. at level (y / 2)) due
-
-map-at : (f : ℕ → ℕ) (l : List ℕ) (i : ℕ) → i < length l → at (map f l) i ≡ f (at l i)
-map-at f [] i h = absurd (omega arith)
-map-at f (x ∷ l) zero h = refl
-map-at f (x ∷ l) (suc i) h = map-at f l i (omega arith)
 
 abbrev pub ranked : List ℕ → List ℕ → ℕ → ℕ → List ℕ
 ranked level due n m = map (at due) (sorted (keys level due) n m)

@@ -1,7 +1,5 @@
 -- Putting dues in rows: what holds before each turn of the loops.
 --   climb               levels begin in rising order
---   fill-each           a column that a loop fills from the front: one member further
---   sets-sets           two runs of stores, one after the other
 --   Onward              to put the rest from p on is to put the whole from n on into the old row
 --   onward-size         the row is as long as the old one
 --   onward-hit, onward-miss, onward-part    one due further, of the level or of another; one edge's dues further
@@ -9,7 +7,7 @@
 --   ends-more           rows that follow rows
 --   Rowing              the dues of level m of the edges below e are in their rows
 --   rowing-start        of no edge yet
---   rowing-part, rowing-room, rowing-few    those of the next edge: where they stand, that they have places, how many they are
+--   rowing-part, rowing-room, rowing-few    those of the next edge: where they are, that they have places, how many they are
 --   rowing-turn         one edge further
 --   Ranking             the dues of the levels below m are in their rows
 --   ranking-size, ranking-small     the row is as long as the old one; n is at most the number of dues
@@ -23,10 +21,11 @@ use native.Mathlib.Numerals.{add-one}
 use mathlib.Core.Path.{_≡_, refl, sym, subst, ap, _∙_}
 use mathlib.Core.List.{List, [], _∷_, _++_}
 use lib.ListN.{length, take, set, length-append, length-set}
-use lib.Seq.{sets, length-sets, getD-set-same, getD-set-other}
+use lib.Seq.{sets, length-sets, getD-set-same}
 use Rattle.graph.specs.Columns.{at}
 use Rattle.graph.specs.inner.Sort.{Stands}
-use Rattle.graph.proofs.Sorted.{sets-at}
+use Rattle.graph.proofs.Sets.{sets-at, sets-sets}
+use Rattle.graph.proofs.Fills.{fill-with}
 use Rattle.gates.specs.inner.Gates.{part}
 use Rattle.gates.proofs.Words.{part-length}
 use Rattle.search.specs.inner.Program.{Owes}
@@ -42,18 +41,6 @@ climb levels many up a (suc b) h l = go (λ q. climb levels many up a b q (omega
     go : (a ≤ b → at levels a ≤ at levels b) → Dec (a ≡ suc b) → at levels a ≤ at levels (suc b)
     go before (yes e) = rw e (omega arith)
     go before (no e) = omega (arith, before (omega arith), up b l)
-
-pub fill-each : (P : ℕ → ℕ → Type 0) (xs : List ℕ) (i v : ℕ) → i < length xs → P i v → ((j : ℕ) → j < i → P j (at xs j)) → (j : ℕ) → j < i + 1
-    → P j (at (set xs i v) j)
-fill-each P xs i v h p before j l = go (ℕ-discrete j i)
-  where
-    go : Dec (j ≡ i) → P j (at (set xs i v) j)
-    go (yes e) = subst (λ x. P x (at (set xs i v) x)) (sym e) (subst (P i) (sym (getD-set-same xs i v 0 h)) p)
-    go (no e) = subst (P j) (sym (getD-set-other xs i j v 0 e)) (before j (omega arith))
-
-sets-sets : (vs ws l : List ℕ) (i j : ℕ) → j ≡ i + length vs → sets (sets l i vs) j ws ≡ sets l i (vs ++ ws)
-sets-sets [] ws l i j e = let f : j ≡ i = omega arith in rw f
-sets-sets (v ∷ vs) ws l i j e = sets-sets vs ws (set l i v) (suc i) j (omega arith)
 
 -- ── The dues of one level ───────────────────────────────────────────────────────────────────
 
@@ -163,17 +150,17 @@ module _ {level : List ℕ} {m : ℕ} {due begin : List ℕ} {edges : ℕ} {old 
 
 -- ── Level by level ──────────────────────────────────────────────────────────────────────────
 
-pub record Ranking (level due : List ℕ) (total many : ℕ) (old row : List ℕ) (size : ℕ) (left : List ℕ) (places : ℕ) (rows : List ℕ) (n m : ℕ) : Type 0 where
+pub record Ranking (level due : List ℕ) (total many : ℕ) (old row : List ℕ) (size : ℕ) (left rows : List ℕ) (n m : ℕ) : Type 0 where
   pub low : m ≤ many
   pub next : n ≡ length (ranked level due total m)
   pub written : row ≡ sets old 0 (ranked level due total m)
   pub left-size : length left ≡ size
   pub ends : RowsEnd left 0 n
-  pub rows-size : length rows ≡ places
+  pub rows-size : length rows ≡ 26
   pub begins : (j : ℕ) → j < m → at rows j ≡ length (ranked level due total j)
 
-module _ {level due : List ℕ} {total many : ℕ} {old row : List ℕ} {size : ℕ} {left : List ℕ} {places : ℕ} {rows : List ℕ} {n m : ℕ}
-    (s : Ranking level due total many old row size left places rows n m) (fits : total ≤ length due) (room : total ≤ length old) (more : many < places) where
+module _ {level due : List ℕ} {total many : ℕ} {old row : List ℕ} {size : ℕ} {left rows : List ℕ} {n m : ℕ}
+    (s : Ranking level due total many old row size left rows n m) (fits : total ≤ length due) (room : total ≤ length old) (more : many < 26) where
   pub ranking-size : length row ≡ length old
   ranking-size = ap length (s .written) ∙ length-sets old 0 (ranked level due total m)
 
@@ -184,11 +171,11 @@ module _ {level due : List ℕ} {total many : ℕ} {old row : List ℕ} {size : 
   ranking-room = omega (arith, s .next, ranked-room level due total fits (suc m), simp length-append at (ap length (ranked-more level due total fits m)))
 
   begins-more : (j : ℕ) → j < m + 1 → at (set rows m n) j ≡ length (ranked level due total j)
-  begins-more = fill-each (λ j v. v ≡ length (ranked level due total j)) rows m n (omega (arith, s .rows-size, s .low)) (s .next) (s .begins)
+  begins-more = fill-with (λ j v. v ≡ length (ranked level due total j)) rows m n (omega (arith, s .rows-size, s .low)) (s .next) (s .begins)
 
   pub ranking-turn : {after left′ : List ℕ} {r : ℕ} → m < many → after ≡ sets row n (ofLevel level m (take total due))
       → r ≡ n + length (ofLevel level m (take total due)) → RowsEnd left′ n r → ((d : ℕ) → d < n → at left′ d ≡ at left d) → length left′ ≡ length left
-      → Ranking level due total many old after size left′ places (set rows m n) r (m + 1)
+      → Ranking level due total many old after size left′ (set rows m n) r (m + 1)
   ranking-turn {after} {left′} {r} l e f new kept same =
       let z = ranked-more level due total fits m in
       let b = begins-more in
@@ -204,7 +191,7 @@ module _ {level due : List ℕ} {total many : ℕ} {old row : List ℕ} {size : 
       })
 
   module _ (e : m ≡ many) where
-    -- What stands in the row: the dues of all levels.
+    -- What the row holds: the dues of all levels.
     row-at : (d : ℕ) → d < n → at row d ≡ at (ranked level due total m) d
     row-at d h = ap (λ xs. at xs d) (s .written)
         ∙ sets-at (ranked level due total m) old d (omega (arith, ranked-room level due total fits m)) (omega (arith, s .next))

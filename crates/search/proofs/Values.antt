@@ -20,7 +20,7 @@ use Rattle.theory.proofs.clocks.Gate.{gate-bit}
 use Rattle.graph.specs.Columns.{at}
 use Rattle.gates.specs.inner.Gates.{part}
 use Rattle.gates.proofs.Words.{part-length, part-at}
-use Rattle.search.specs.inner.Program.{look, operandsOf, valuesTo, valueAt, Program, Levelled}
+use Rattle.search.specs.inner.Program.{Program, look, operandsOf, valuesTo, valueAt, RightProgram, Levelled}
 use Rattle.search.proofs.Putting.{climb}
 use Rattle.search.proofs.Next.{same-above}
 
@@ -49,74 +49,74 @@ look-cell k c vals x h = rw (le-ltb x 32 h)
 
 -- ── Values ──────────────────────────────────────────────────────────────────────────────────
 
-module _ (kind first operand : List ℕ) (k c : ℕ) where
-  values-length : (n : ℕ) → length (valuesTo kind first operand k c n) ≡ n
+module _ (P : Program) (k c : ℕ) where
+  values-length : (n : ℕ) → length (valuesTo P k c n) ≡ n
   unfolding valuesTo
   values-length zero = refl
   values-length (suc n) = simp length-append (omega (arith, values-length n))
 
-  pub values-at : (n i : ℕ) → i < n → at (valuesTo kind first operand k c n) i ≡ valueAt kind first operand k c i
+  pub values-at : (n i : ℕ) → i < n → at (valuesTo P k c n) i ≡ valueAt P k c i
   unfolding valuesTo
   values-at zero i h = absurd (omega arith)
   values-at (suc n) i h = go (λ l. values-at n i l) (ℕ-discrete i n)
     where
-      go : (i < n → at (valuesTo kind first operand k c n) i ≡ valueAt kind first operand k c i) → Dec (i ≡ n)
-          → at (valuesTo kind first operand k c (suc n)) i ≡ valueAt kind first operand k c i
-      go before (yes e) = ap (λ m. at (valuesTo kind first operand k c (suc m)) i) (sym e)
-      go before (no e) = List·getD-append (valuesTo kind first operand k c n) _ 0 i (omega (arith, values-length n)) ∙ before (omega arith)
+      go : (i < n → at (valuesTo P k c n) i ≡ valueAt P k c i) → Dec (i ≡ n)
+          → at (valuesTo P k c (suc n)) i ≡ valueAt P k c i
+      go before (yes e) = ap (λ m. at (valuesTo P k c (suc m)) i) (sym e)
+      go before (no e) = List·getD-append (valuesTo P k c n) _ 0 i (omega (arith, values-length n)) ∙ before (omega arith)
 
-  pub value-gate : (i : ℕ) → valueAt kind first operand k c i ≡ gate (at kind i) (map (look k c (valuesTo kind first operand k c i)) (operandsOf first operand i))
+  pub value-gate : (i : ℕ) → valueAt P k c i ≡ gate (at (P .kind) i) (map (look k c (valuesTo P k c i)) (operandsOf (P .first) (P .operand) i))
   unfolding valuesTo
-  value-gate i = getD-at (valuesTo kind first operand k c i) _ [] 0 i (values-length i)
+  value-gate i = getD-at (valuesTo P k c i) _ [] 0 i (values-length i)
 
-  pub value-bit : (i : ℕ) → valueAt kind first operand k c i ≤ 1
-  value-bit i = rw (value-gate i) (gate-bit (at kind i) (map (look k c (valuesTo kind first operand k c i)) (operandsOf first operand i)))
+  pub value-bit : (i : ℕ) → valueAt P k c i ≤ 1
+  value-bit i = rw (value-gate i) (gate-bit (at (P .kind) i) (map (look k c (valuesTo P k c i)) (operandsOf (P .first) (P .operand) i)))
 
 -- ── What a value depends on ─────────────────────────────────────────────────────────────────
 
-module _ {cells k : ℕ} {kind first operand : List ℕ} (f : Program cells k kind first operand) where
+module _ {cells k : ℕ} {P : Program} (f : RightProgram cells k P) where
   -- An operand of cell i shows a chosen bit, or an earlier cell's value.
-  pub operand-bit : (c i j : ℕ) → i < cells → at first i ≤ j → j < at first (suc i) → look k c (valuesTo kind first operand k c i) (at operand j) ≤ 1
+  pub operand-bit : (c i j : ℕ) → i < cells → at (P .first) i ≤ j → j < at (P .first) (suc i) → look k c (valuesTo P k c i) (at (P .operand) j) ≤ 1
   operand-bit c i j h a b =
-      let x = at operand j in
+      let x = at (P .operand) j in
       ⊎-elim
-      (λ (w : x < k). rw (look-bit k c (valuesTo kind first operand k c i) x (omega (arith, f .few-bits))) (omega arith))
+      (λ (w : x < k). rw (look-bit k c (valuesTo P k c i) x (omega (arith, f .few-bits))) (omega arith))
       (λ (w : (32 ≤ x) × (x < 32 + i)).
-      rw (look-cell k c (valuesTo kind first operand k c i) x (w .0), values-at kind first operand k c i (x - 32) (omega arith)) (value-bit kind first operand k c (x - 32)))
+      rw (look-cell k c (valuesTo P k c i) x (w .0), values-at P k c i (x - 32) (omega arith)) (value-bit P k c (x - 32)))
       (f .earlier i j h a b)
 
-  module _ {levels : List ℕ} (v : Levelled cells k first operand levels) (c d m : ℕ) (few : m ≤ k) (e : c / 2 ^ (k - m) ≡ d / 2 ^ (k - m)) where
+  module _ {levels : List ℕ} (v : Levelled cells k P levels) (c d m : ℕ) (few : m ≤ k) (e : c / 2 ^ (k - m) ≡ d / 2 ^ (k - m)) where
     inside : (i : ℕ) → i < at levels (suc m) → i < cells
     inside i h = omega (arith, v .whole, climb levels (suc k) (λ n l. v .climbs n (omega arith)) (suc m) (suc k) (omega arith) (omega arith))
 
     -- The operands of a cell of a level up to m: bits below m, on which the choices agree, and earlier cells.
-    operand-same : (i j : ℕ) → i < at levels (suc m) → at first i ≤ j → j < at first (suc i)
-        → ((n : ℕ) → n < i → valueAt kind first operand k c n ≡ valueAt kind first operand k d n)
-        → look k c (valuesTo kind first operand k c i) (at operand j) ≡ look k d (valuesTo kind first operand k d i) (at operand j)
+    operand-same : (i j : ℕ) → i < at levels (suc m) → at (P .first) i ≤ j → j < at (P .first) (suc i)
+        → ((n : ℕ) → n < i → valueAt P k c n ≡ valueAt P k d n)
+        → look k c (valuesTo P k c i) (at (P .operand) j) ≡ look k d (valuesTo P k d i) (at (P .operand) j)
     operand-same i j h a b before = go (f .earlier i j (inside i h) a b)
       where
-        go : (at operand j < k) ⊎ ((32 ≤ at operand j) × (at operand j < 32 + i))
-            → look k c (valuesTo kind first operand k c i) (at operand j) ≡ look k d (valuesTo kind first operand k d i) (at operand j)
+        go : (at (P .operand) j < k) ⊎ ((32 ≤ at (P .operand) j) × (at (P .operand) j < 32 + i))
+            → look k c (valuesTo P k c i) (at (P .operand) j) ≡ look k d (valuesTo P k d i) (at (P .operand) j)
         go (inl w) =
-            let x = at operand j in
+            let x = at (P .operand) j in
             let small : x < 32 = omega (arith, f .few-bits) in
             let r = v .sees m i j few h a b small in
             look-bit k c _ x small ∙ ap (λ n. n % 2) (same-above (k - m) (k - suc x) c d (omega arith) e) ∙ sym (look-bit k d _ x small)
         go (inr w) =
-            let x = at operand j in
+            let x = at (P .operand) j in
             look-cell k c _ x (w .0)
-            ∙ values-at kind first operand k c i (x - 32) (omega arith)
+            ∙ values-at P k c i (x - 32) (omega arith)
             ∙ before (x - 32) (omega arith)
-            ∙ sym (values-at kind first operand k d i (x - 32) (omega arith))
+            ∙ sym (values-at P k d i (x - 32) (omega arith))
             ∙ sym (look-cell k d _ x (w .0))
 
-    agree-below : (n i : ℕ) → i < n → i < at levels (suc m) → valueAt kind first operand k c i ≡ valueAt kind first operand k d i
+    agree-below : (n i : ℕ) → i < n → i < at levels (suc m) → valueAt P k c i ≡ valueAt P k d i
     agree-below zero i l h = absurd (omega arith)
     agree-below (suc n) i l h =
-        value-gate kind first operand k c i
-        ∙ ap (gate (at kind i)) (part-same _ _ operand (at first i) (at first (suc i)) (f .in-rows i (inside i h))
+        value-gate P k c i
+        ∙ ap (gate (at (P .kind) i)) (part-same _ _ (P .operand) (at (P .first) i) (at (P .first) (suc i)) (f .in-rows i (inside i h))
         (λ j a b. operand-same i j h a b (λ t w. agree-below n t (omega arith) (omega arith))))
-        ∙ sym (value-gate kind first operand k d i)
+        ∙ sym (value-gate P k d i)
 
-    pub agree : (i : ℕ) → i < at levels (suc m) → valueAt kind first operand k c i ≡ valueAt kind first operand k d i
+    pub agree : (i : ℕ) → i < at levels (suc m) → valueAt P k c i ≡ valueAt P k d i
     agree i h = agree-below (suc i) i (omega arith) h

@@ -2,16 +2,24 @@
 // Private to the crate: `search` hands on the plan that it asks for.
 //
 // Signals: what each operand shows, the chosen bit x at x and the value of cell i at 32 + i.
-use crate::Choice;
 use gates::index_table;
 use gates::put_truths;
 use gates::value;
 ghost use mathlib.Core.Path.{_≡_};
-ghost use Prim.Native.Nat.{suc, _-_, _^_, _≤_, _<_};
+ghost use Prim.Native.Nat.{_+_, _-_, _^_, _≤_, _<_};
 ghost use lib.ListN.{length};
-ghost use Rattle.graph.specs.Columns.{at};
-ghost use Rattle.search.specs.inner.Program.{Solves};
-ghost use Rattle.search.specs.inner.States.{nextAfter, ChoiceShown, CanEvaluate, EvaluatedTo, Advanced, Jumped, Plan};
+ghost use Rattle.search.specs.inner.Program.{programOf, Smallest};
+ghost use Rattle.search.specs.inner.States.{nextAfter, ChoiceShown, evaluatorOf, CanEvaluate, EvaluatedTo, Advanced, Jumped, Plan, Fresh};
+
+// How far the search goes: the bits of a choice, the limit of choices, how many cells and dues there are, and where those of each level begin.
+pub struct Extent {
+    pub bits: u32,
+    pub limit: u32,
+    pub cells: usize,
+    pub dues: usize,
+    pub levels: [u16; 26],
+    pub rows: [u16; 26],
+}
 
 // Where the search goes on: a choice, the first cell to evaluate, the first due to look at.
 struct Turn {
@@ -21,7 +29,7 @@ struct Turn {
 }
 
 // 2 ^ k.
-fn two_to(k: u32) -> u32
+pub fn two_to(k: u32) -> u32
     requires { ⌜ k ≤ 24 ⌝ }
     ensures { λ r. ⌜ r ≡ 2 ^ k ⌝ }
 {
@@ -38,8 +46,9 @@ fn evaluate(
     end: usize,
     sig: &mut [u8],
 ) -> usize
-    requires { ⌜ CanEvaluate (now truth) (now index) (now first) (now operand) start end (now sig) ⌝ }
-    ensures { λ r. ⌜ EvaluatedTo (now (truth .entry)) (now (index .entry)) (now (first .entry)) (now (operand .entry)) start end (now (sig .entry)) (now (sig .exit)) r ⌝ }
+    requires { ⌜ CanEvaluate (evaluatorOf (now truth) (now index) (now first) (now operand)) start end (now sig) ⌝ }
+    ensures { λ r. ⌜ EvaluatedTo (evaluatorOf (now (truth .entry)) (now (index .entry)) (now (first .entry)) (now (operand .entry)))
+        start end (now (sig .entry)) (now (sig .exit)) r ⌝ }
 {
     let mut i = start;
     while i < end {
@@ -77,12 +86,12 @@ fn advance(k: usize, m: usize, sig: &mut [u8]) -> usize
 }
 
 // On to the first choice that differs in one of the first m bits, and there to the first cell and the first due that depend on a changed bit.
-fn jump(choice: u32, k: u32, m: usize, levels: &[u16], rows: &[u16], sig: &mut [u8]) -> Turn
-    requires { ⌜ (choice < 2 ^ k) × (k ≤ 24) × (m ≤ k) × (k < length (now levels)) × (k < length (now rows)) × (k ≤ length (now sig)) ⌝ }
-    requires { ⌜ ChoiceShown k choice (now sig) ⌝ }
-    ensures { λ r. ⌜ Jumped choice k m (now (levels .entry)) (now (rows .entry)) (now (sig .entry)) (now (sig .exit)) (r .choice) (r .cell) (r .due) ⌝ }
+fn jump<'a>(choice: u32, k: u32, m: u8, levels: &'a [u16], rows: &'a [u16], sig: &mut [u8]) -> Turn
+    requires { ⌜ (choice < 2 ^ k) × (k ≤ 24) × (m ≤ k) × ChoiceShown k choice (now sig) ⌝ }
+    requires { ⌜ (k < length (now levels)) × (k < length (now rows)) × (k ≤ length (now sig)) ⌝ }
+    ensures { λ r. ⌜ Jumped choice k m (now (levels .entry)) (now (rows .entry)) (now (sig .entry)) (now (sig .exit)) r ⌝ }
 {
-    let x = advance(k as usize, m, sig);
+    let x = advance(k as usize, m as usize, sig);
     Turn {
         choice: next_after(choice, k - m as u32),
         cell: levels[x] as usize,
@@ -91,41 +100,35 @@ fn jump(choice: u32, k: u32, m: usize, levels: &[u16], rows: &[u16], sig: &mut [
 }
 
 // "A choice is dropped at its first register value that disagrees": then the search goes on with the next choice that differs in a bit on which
-// that value depends.
+// that value depends. The choice found; the limit where there is none.
 pub fn first_choice<'a>(
     kind: &'a [u8],
     first: &'a [u16],
     operand: &'a [u16],
-    levels: &'a [u16],
     level: &[u8],
-    k: u32,
     row: &[u16],
     left: &[u8],
-    rows: &[u16],
-) -> Choice
-    requires { ⌜ Plan k (now kind) (now first) (now operand) (now levels) (now level) (now row) (now left) (now rows) ⌝ }
-    ensures { λ r. ⌜ Solves k (now (kind .entry)) (now (first .entry)) (now (operand .entry)) (now (row .entry)) (at (now (rows .entry)) (suc k)) (r .found) (r .choice) ⌝ }
+    e: Extent,
+    truth: &mut [u16],
+    sig: &mut [u8],
+) -> u32
+    requires { ⌜ Plan e (programOf (now kind) (now first) (now operand)) (now level) (now row) (now left) × Fresh (e .cells) (now truth) (now sig) ⌝ }
+    ensures { λ r. ⌜ Smallest (e .bits) (programOf (now (kind .entry)) (now (first .entry)) (now (operand .entry))) (now (row .entry)) (e .dues) r ⌝ }
 {
-    let limit = two_to(k);
     let index = index_table();
-    let cells = levels[(k + 1) as usize] as usize;
-    let mut truth = [0u16; 12288];
-    put_truths(kind, first, cells, &mut truth);
-    let dues = rows[(k + 1) as usize] as usize;
-    let mut sig = [0u8; 12320];
+    put_truths(kind, first, e.cells, truth);
     let mut choice = 0;
     let mut p = 0;
     let mut d = 0;
-    'search: while choice < limit {
-        // Edges, those first whose values depend on few leading bits;
-        while d < dues {
+    'search: while choice < e.limit {
+        // Edges, those first whose values depend on few leading bits; and of each its moved clocks.
+        while d < e.dues {
             let end = d + left[d] as usize;
-            // and their moved clocks.
             while d < end {
                 let i = (row[d] / 2) as usize;
-                p = evaluate(&truth, &index, first, operand, p, i + 1, &mut sig);
+                p = evaluate(truth, &index, first, operand, p, i + 1, sig);
                 if sig[32 + i] as u16 != row[d] % 2 {
-                    let t = jump(choice, k, level[i] as usize, levels, rows, &mut sig);
+                    let t = jump(choice, e.bits, level[i], &e.levels, &e.rows, sig);
                     choice = t.choice;
                     p = t.cell;
                     d = t.due;
@@ -134,13 +137,7 @@ pub fn first_choice<'a>(
                 d += 1;
             }
         }
-        return Choice {
-            found: true,
-            choice,
-        };
+        return choice;
     }
-    Choice {
-        found: false,
-        choice,
-    }
+    choice
 }

@@ -10,12 +10,11 @@ ghost use Rattle.search.specs.inner.Program.{Owes};
 ghost use Rattle.search.specs.inner.Rows.{Level, ofLevel, RowsEnd, Rows, SameDues};
 
 // The level of each cell.
-pub fn levels_of(levels: &[u16], many: usize) -> [u8; 12288]
-    requires { ⌜ (many < length (now levels)) × (many ≤ 256) × (at (now levels) many ≤ 12288) × (at (now levels) 0 ≡ 0) ⌝ }
+pub fn levels_of(levels: &[u16], many: usize, level: &mut [u8])
+    requires { ⌜ (many < length (now levels)) × (many ≤ 256) × (at (now levels) many ≤ length (now level)) × (at (now levels) 0 ≡ 0) ⌝ }
     requires { ⌜ ((m : ℕ) → m < many → at (now levels) m ≤ at (now levels) (suc m)) ⌝ }
-    ensures { λ r. ⌜ ((i : ℕ) → i < at (now (levels .entry)) many → Level (now (levels .entry)) many i (at r i)) ⌝ }
+    ensures { λ _. ⌜ ((i : ℕ) → i < at (now (levels .entry)) many → Level (now (levels .entry)) many i (at (now (level .exit)) i)) ⌝ }
 {
-    let mut level = [0u8; 12288];
     let mut m = 0;
     while m < many {
         let end = levels[m + 1] as usize;
@@ -26,7 +25,6 @@ pub fn levels_of(levels: &[u16], many: usize) -> [u8; 12288]
         }
         m += 1;
     }
-    level
 }
 
 // The dues of level m among those at the places `start` to `end`, put from n on. The place after them.
@@ -83,7 +81,8 @@ fn put_level(
     requires { ⌜ Owes (length (now level)) (now due) (now begin) edges ⌝ }
     requires { ⌜ start + length (ofLevel (now level) m (take (at (now begin) edges) (now due))) ≤ length (now row) ⌝ }
     requires { ⌜ start + length (ofLevel (now level) m (take (at (now begin) edges) (now due))) ≤ length (now left) ⌝ }
-    ensures { λ r. ⌜ now (row .exit) ≡ sets (now (row .entry)) start (ofLevel (now (level .entry)) m (take (at (now (begin .entry)) edges) (now (due .entry)))) ⌝ }
+    ensures { λ r. ⌜ now (row .exit)
+        ≡ sets (now (row .entry)) start (ofLevel (now (level .entry)) m (take (at (now (begin .entry)) edges) (now (due .entry)))) ⌝ }
     ensures { λ r. ⌜ r ≡ start + length (ofLevel (now (level .entry)) m (take (at (now (begin .entry)) edges) (now (due .entry)))) ⌝ }
     ensures { λ r. ⌜ RowsEnd (now (left .exit)) start r × ((d : ℕ) → d < start → at (now (left .exit)) d ≡ at (now (left .entry)) d) ⌝ }
 {
@@ -100,7 +99,7 @@ fn put_level(
     n
 }
 
-// All rows, level by level: those of level m from rows[m] on.
+// All rows, level by level. Where those of each level begin.
 pub fn put_rows(
     due: &[u16],
     begin: &[u16],
@@ -109,14 +108,14 @@ pub fn put_rows(
     many: usize,
     row: &mut [u16],
     left: &mut [u8],
-    rows: &mut [u16],
-)
+) -> [u16; 26]
     requires { ⌜ Owes (length (now level)) (now due) (now begin) edges ⌝ }
     requires { ⌜ ((x : ℕ) → x < at (now begin) edges → at (now level) (at (now due) x / 2) < many) ⌝ }
-    requires { ⌜ (at (now begin) edges ≤ length (now row)) × (at (now begin) edges ≤ length (now left)) × (many < length (now rows)) ⌝ }
-    ensures { λ _. ⌜ Rows many (now (level .entry)) (now (row .exit)) (now (left .exit)) (now (rows .exit)) ⌝ }
-    ensures { λ _. ⌜ SameDues (now (due .entry)) (at (now (begin .entry)) edges) (now (row .exit)) (at (now (rows .exit)) many) ⌝ }
+    requires { ⌜ (at (now begin) edges ≤ length (now row)) × (at (now begin) edges ≤ length (now left)) × (many < 26) ⌝ }
+    ensures { λ r. ⌜ Rows many (now (level .entry)) (now (row .exit)) (now (left .exit)) r ⌝ }
+    ensures { λ r. ⌜ SameDues (now (due .entry)) (at (now (begin .entry)) edges) (now (row .exit)) (at r many) ⌝ }
 {
+    let mut rows = [0u16; 26];
     let mut n = 0;
     let mut m = 0;
     while m < many {
@@ -125,4 +124,5 @@ pub fn put_rows(
         m += 1;
     }
     rows[many] = n as u16;
+    rows
 }

@@ -1,6 +1,5 @@
 -- From what a call found to what stepping and running say: the four ends of each.
 --   reads-done          a reading that is done says a number
---   step-facts          the tests of 13 hold, in facts
 --   steps-stop, steps-asked, steps-short, steps-done    stepping stops at a refusal of 2 to 7, at 13, at 12, or is done
 --   step-runnable       else a step is one clock
 --   runs-stop, runs-size, runs-byte, runs-short, runs-done    running stops at a refusal of 1 to 7, at 13 for either reason, at 12, or is done
@@ -10,73 +9,55 @@ use Prim.Native.Nat.{ℕ, _+_, _*_, _/_, _%_, _<_, _≤_}
 use native.Mathlib.Omega.{arith}
 use native.Mathlib.Nat.{div-add-mod', div-lt-iff-lt-mul, le-div-iff-mul-le}
 use mathlib.Core.Path.{_≡_, refl, sym, ap, ap₂, _∙_, subst}
-use mathlib.Core.Bool.{Bool, true, false}
-use mathlib.Core.List.{List, [], _∷_, append-nil}
+use mathlib.Core.Bool.{true, false}
+use mathlib.Core.List.{List, append-nil}
 use lib.Dec.{eqb}
 use lib.ListN.{length}
 use lib.Seq.{sets, sets-eq, take-all}
-use borrow.Author.Tests.{lt-ltb, le-ltb, eqb-true, eq-eqb, ne-eqb}
+use borrow.Author.Tests.{eq-eqb, ne-eqb}
 use Rattle.netlist.specs.declared.Netlist.{Netlist}
 use Rattle.netlist.specs.declared.Place.{Place}
-use Rattle.netlist.specs.declared.Place.the-variants.{Whole, Line, Node, Edge}
 use Rattle.netlist.specs.declared.Answer.{Answer}
 use Rattle.netlist.specs.declared.Answer.the-variants.{Done, Refused}
-use Rattle.netlist.specs.Answer.{value, refused, says, whole}
+use Rattle.netlist.specs.Answer.{value, says, whole}
+use Rattle.netlist.specs.Order.{here, past}
 use Rattle.netlist.specs.Read.{Reads}
-use Rattle.rules.specs.Rules.{every}
 use Rattle.netlist.specs.Write.{textOf}
-use Rattle.netlist.proofs.Fits.{clash, both}
+use Rattle.netlist.proofs.Order.{needs-room}
+use Rattle.netlist.proofs.Answered.{goes-on}
+pub use Rattle.netlist.proofs.Answered.{says-refused}
 use Rattle.simulate.specs.declared.Machine.{Machine}
 use Rattle.simulate.specs.Clock.{inputs, outputs, outputValues, wordsAfter}
-use Rattle.simulate.specs.Step.{onlyBits, wordsFit, stepSays, Steps}
-use Rattle.simulate.specs.Run.{clocksFrom, clocks, runSays, Runs}
+use Rattle.simulate.specs.Step.{onlyBits, stepFits, Steps}
+use Rattle.simulate.specs.Run.{clocksFrom, clocks, runFits, Runs}
 use Rattle.simulate.specs.inner.Ran.{Runnable, wordsFrom, Ran}
 use Rattle.simulate.proofs.Clock.{start-fits, words-fit, output-length, clocks-length}
+use Rattle.simulate.proofs.Says.{row-held, step-facts}
 use Rattle.simulate.proofs.Ran.{reads-zero, reads-steppable}
 use Rattle.simulate.proofs.theorems.Pins.{has-pins}
-
-pub says-refused : (a : Answer) {q : ℕ} {p : Place} → a ≡ Refused q p → (k l : ℕ) × (says a ≡ refused q k l)
-says-refused (Done n) e = clash (cc)
-says-refused (Refused q Whole) e = (0, 0, cc)
-says-refused (Refused q (Line n)) e = (1, n, cc)
-says-refused (Refused q (Node v)) e = (2, v, cc)
-says-refused (Refused q (Edge m)) e = (3, m, cc)
 
 pub reads-done : {t : List ℕ} {net : Netlist} {n : ℕ} (a : Answer) → a ≡ Done n → Reads t (says a) net → Reads t (value n) net
 reads-done {t} {net} a e r = subst (λ s. Reads t s net) (ap says e) r
 
 -- ── Stepping ────────────────────────────────────────────────────────────────────────────────
 
--- Rule 13 of stepping.
-abbrev stepFits : Netlist → List ℕ → List ℕ → Bool
-stepFits net words vector = every (eqb (length vector) (inputs net) ∷ onlyBits vector ∷ wordsFit net words (net .edges) ∷ [])
-
-step-facts : (net : Netlist) (words vector : List ℕ) → stepFits net words vector ≡ true
-    → (length vector ≡ inputs net) × (onlyBits vector ≡ true) × (wordsFit net words (net .edges) ≡ true)
-step-facts net words vector f =
-    let a = both (eqb (length vector) (inputs net)) _ f in
-    let b = both (onlyBits vector) _ (a .1) in
-    (eqb-true (length vector) (inputs net) (a .0), b .0, both (wordsFit net words (net .edges)) true (b .1) .0)
-
 module _ (net : Netlist) (m : Machine) (vector old : List ℕ) (a : Answer) (same : Netlist) (check : Reads (textOf net) (says a) same) where
   pub steps-stop : {q : ℕ} {p : Place} → a ≡ Refused q p → Steps net m vector old (says a) m old
   steps-stop e =
       let z = says-refused a e .2 in
-      record { checked = says a; same = same; check = check; answer = rw z; machine = rw z; buffer = rw z }
+      record { checked = says a; same = same; check = check; answer = here (rw z); machine = rw z; buffer = rw z }
 
   module _ {n : ℕ} (e : a ≡ Done n) where
     pub steps-asked : stepFits same (m .words) vector ≡ false → Steps net m vector old (whole 13) m old
-    unfolding stepSays
-    steps-asked f = record { checked = says a; same = same; check = check; answer = rw (e, f); machine = refl; buffer = refl }
+    steps-asked f = record { checked = says a; same = same; check = check; answer = past (goes-on a e) (here (f, refl)); machine = refl; buffer = refl }
 
     module _ (f : stepFits same (m .words) vector ≡ true) (o : ℕ) (q : o ≡ outputs same) where
       pub steps-short : length old < o → Steps net m vector old (whole 12) m old
-      unfolding stepSays
       steps-short h = record {
         checked = says a;
         same = same;
         check = check;
-        answer = rw (e, f, lt-ltb (length old) (outputs same) (omega arith));
+        answer = past (goes-on a e) (past (row-held f) (here (omega arith, refl)));
         machine = refl;
         buffer = refl;
       }
@@ -94,7 +75,7 @@ module _ (net : Netlist) (m : Machine) (vector old : List ℕ) (a : Answer) (sam
 
         -- One clock, on the whole vector.
         pub steps-done : (words′ new : List ℕ) → Ran same 1 (m .words) vector old words′ new → Steps net m vector old (value o) (record { words = words′ }) new
-        unfolding stepSays clocksFrom wordsFrom
+        unfolding clocksFrom wordsFrom
         steps-done words′ new r =
             let all = take-all (inputs same) vector (omega (arith, step-facts same (m .words) vector f .0)) in
             let put = outputValues same (m .words) vector in
@@ -103,26 +84,23 @@ module _ (net : Netlist) (m : Machine) (vector old : List ℕ) (a : Answer) (sam
               checked = says a;
               same = same;
               check = check;
-              answer = rw (e, f, le-ltb (length old) (outputs same) (omega arith)) (ap value q);
+              answer = past (goes-on a e) (past (row-held f) (needs-room (omega arith) q));
               machine = ap (λ w. record { words = w }) (r .leaves ∙ ap (wordsAfter same (m .words)) all);
               buffer = rw k at (r .puts ∙ ap (sets old 0) one ∙ sets-eq put old 0 (omega (arith, output-length same (m .words) vector)));
             }
 
 -- ── Running ─────────────────────────────────────────────────────────────────────────────────
 
--- Rule 13 of running.
-abbrev runFits : Netlist → List ℕ → Bool
-runFits net vectors = every (eqb (length vectors % inputs net) 0 ∷ onlyBits vectors ∷ [])
-
 module _ (t vectors old : List ℕ) (a : Answer) (net : Netlist) (reads : Reads t (says a) net) where
   pub runs-stop : {q : ℕ} {p : Place} → a ≡ Refused q p → Runs t vectors old (says a) old
-  runs-stop e = let z = says-refused a e .2 in record { checked = says a; net = net; reads = reads; answer = rw z; buffer = rw z }
+  runs-stop e =
+      let z = says-refused a e .2 in
+      record { checked = says a; net = net; reads = reads; answer = here (rw z); buffer = rw z }
 
   -- The code counts i inputs and o outputs.
   module _ {n : ℕ} (e : a ≡ Done n) (i o : ℕ) (p : i ≡ inputs net) (q : o ≡ outputs net) where
     asked : runFits net vectors ≡ false → Runs t vectors old (whole 13) old
-    unfolding runSays
-    asked f = record { checked = says a; net = net; reads = reads; answer = rw (e, f); buffer = refl }
+    asked f = record { checked = says a; net = net; reads = reads; answer = past (goes-on a e) (here (f, refl)); buffer = refl }
 
     pub run-divisors : (0 < i) × (0 < o)
     run-divisors =
@@ -141,18 +119,20 @@ module _ (t vectors old : List ℕ) (a : Answer) (net : Netlist) (reads : Reads 
       runs-byte b = asked (rw (whole-test, b))
 
       module _ (b : onlyBits vectors ≡ true) where
+        held : runFits net vectors ≡ true
+        held = rw (whole-test, b)
+
         clocks-are : length vectors / i * o ≡ clocks net vectors * outputs net
         clocks-are = ap₂ (λ k l. length vectors / k * l) p q
 
         -- The product could be too large to compute, so the code divides.
         pub runs-short : length old / o < length vectors / i → Runs t vectors old (whole 12) old
-        unfolding runSays
         runs-short l =
             let s : length old < clocks net vectors * outputs net = omega (arith, div-lt-iff-lt-mul {k = o} {x = length old} {y = length vectors / i} (run-divisors .1) .0 l, clocks-are) in record {
               checked = says a;
               net = net;
               reads = reads;
-              answer = rw (e, whole-test, b, lt-ltb (length old) (clocks net vectors * outputs net) s);
+              answer = past (goes-on a e) (past (row-held held) (here (s, refl)));
               buffer = refl;
             }
 
@@ -172,7 +152,6 @@ module _ (t vectors old : List ℕ) (a : Answer) (net : Netlist) (reads : Reads 
 
           pub runs-done : (words′ new : List ℕ) → Ran net (length vectors / i) (net .start) vectors old words′ new
               → Runs t vectors old (value (length vectors / i * o)) new
-          unfolding runSays
           runs-done words′ new r =
               let put = clocksFrom net (clocks net vectors) (net .start) vectors in
               let k : 0 + length put ≡ length put = omega arith in
@@ -180,7 +159,7 @@ module _ (t vectors old : List ℕ) (a : Answer) (net : Netlist) (reads : Reads 
                 checked = says a;
                 net = net;
                 reads = reads;
-                answer = rw (e, whole-test, b, le-ltb (length old) (clocks net vectors * outputs net) s) (ap value clocks-are);
+                answer = past (goes-on a e) (past (row-held held) (needs-room s clocks-are));
                 buffer =
                     rw k at
                     (r .puts ∙ ap (λ j. sets old 0 (clocksFrom net (length vectors / j) (net .start) vectors)) p

@@ -20,6 +20,7 @@ use lib.ListN.{length, getD, take, drop, length-append}
 use lib.Dec.{ltb}
 use lib.Seq.{getD-drop}
 use borrow.Author.Tests.{eq-eqb, ne-eqb, ltb-true, lt-ltb}
+use borrow.Author.Count.{below-more}
 use Rattle.theory.specs.Graph.{Wired}
 use Rattle.theory.specs.Walk.{Loop}
 use Rattle.theory.specs.Clock.{gather, sees, Trace, value}
@@ -27,7 +28,7 @@ use Rattle.theory.specs.inner.Registers.{SameRegs}
 use Rattle.theory.specs.inner.Stepping.{edgeShows, showsIf}
 use Rattle.theory.specs.Step.{holding, oneClock}
 use Rattle.theory.specs.Gate.{gate}
-use Rattle.theory.proofs.clocks.Seen.{gather-same}
+use Rattle.theory.proofs.clocks.Seen.{gather-same, gather-length}
 use Rattle.theory.proofs.clocks.Trace.{unique}
 use Rattle.theory.proofs.clocks.Value.{value-trace}
 use Rattle.theory.proofs.clocks.Step.{shows-first}
@@ -36,12 +37,12 @@ use Rattle.netlist.specs.declared.Netlist.{Netlist}
 use Rattle.graph.specs.Columns.{bit}
 use Rattle.netlist.specs.Net.{graphOf, regsOf}
 use Rattle.netlist.specs.Theorems.{Fit}
-use Rattle.netlist.proofs.Rows.{below-more}
+use Rattle.netlist.proofs.Rows.{rows-at}
 use Rattle.netlist.proofs.Fits.{both, edge-fits}
 use Rattle.simulate.specs.Clock.{earlier, inputs, outputs, inputByte, values, outputValues, shifted, wordAfter, wordsAfter}
 use Rattle.simulate.specs.Step.{onlyBits, wordsFit}
 use Rattle.simulate.specs.Run.{clocksFrom}
-use Rattle.simulate.proofs.Lists.{gather-length, rows-at, rows-past, bits-at}
+use Rattle.simulate.proofs.Lists.{rows-past, bits-at}
 use Rattle.simulate.proofs.Words.{moved-fits}
 
 -- ── What an edge shows ──────────────────────────────────────────────────────────────────────
@@ -73,7 +74,7 @@ module _ (net : Netlist) (words : List ℕ) where
   fit-words zero h e l = absurd (omega arith)
   fit-words (suc n) h e l =
       let b = both (wordsFit net words n) (ltb (getD words n 0) (2 ^ regsOf net .count n)) h in
-      below-more (λ e. getD words e 0 < 2 ^ regsOf net .count e) n (fit-words n (b .0)) (ltb-true (getD words n 0) (2 ^ regsOf net .count n) (b .1)) e l
+      below-more (λ e. getD words e 0 < 2 ^ regsOf net .count e) n (fit-words n (b .0)) (ltb-true (getD words n 0) (2 ^ regsOf net .count n) (b .1)) e (omega arith)
 
   pub words-fit : (n : ℕ) → ((e : ℕ) → e < n → getD words e 0 < 2 ^ regsOf net .count e) → wordsFit net words n ≡ true
   unfolding wordsFit
@@ -90,7 +91,7 @@ start-fits net f e h =
 module _ (net : Netlist) (words vector : List ℕ) where
   pub after-in : (e : ℕ) → e < net .edges → getD (wordsAfter net words vector) e 0 ≡ wordAfter net words vector e
   unfolding wordsAfter
-  after-in e h = rows-at (wordAfter net words vector) (net .edges) e (drop (net .edges) words) h
+  after-in e h = rows-at (wordAfter net words vector) 0 (net .edges) e (drop (net .edges) words) h
 
   pub after-past : (n : ℕ) → net .edges ≤ n → drop n (wordsAfter net words vector) ≡ drop n words
   unfolding wordsAfter

@@ -14,7 +14,7 @@ use lib.ListN.{length, set}
 use lib.Seq.{getD-set-same, getD-set-other}
 use borrow.Author.Tests.{eq-eqb, ne-eqb}
 use Rattle.theory.specs.Gate.{gate}
-use Rattle.theory.proofs.clocks.Seen.{gather-same}
+use Rattle.theory.proofs.clocks.Seen.{gather-map, gather-same}
 use Rattle.graph.specs.Columns.{at, bit}
 use Rattle.gates.specs.inner.Gates.{part, AllBits, evaluated, GateRows, Evaluable, Truths}
 use Rattle.gates.proofs.Row.{evaluated-length}
@@ -24,7 +24,6 @@ use Rattle.simulate.specs.declared.plan.Plan.{Plan}
 use Rattle.simulate.specs.Clock.{values}
 use Rattle.simulate.specs.inner.Plan.{signal, Planned}
 use Rattle.simulate.specs.inner.Ran.{Steppable}
-use Rattle.simulate.proofs.Lists.{gather-map}
 use Rattle.simulate.proofs.Clock.{shown, shown-none, shown-some, value-gate}
 
 -- The columns of a plan, as long as they are in its record.

@@ -1,12 +1,11 @@
 -- The laws of clocks, from the ground up.
--- Words that move on; what is gathered and joined.
+-- Words that move on; what is joined.
 pub mod Words
 pub mod Lists
 -- One clock by equations; what is said of steps and runs that are not refused.
 pub mod Clock
 pub mod Says
--- The plan: the nodes of an order that are no inputs; the edges sorted by the node that they enter; the plan, from its parts.
-pub mod Kept
+-- The plan: the edges sorted by the node that they enter; the plan, from its parts.
 pub mod Seen
 pub mod Plans
 -- The tests of rule 13, a turn at a time.

@@ -1,72 +1,29 @@
--- Lists that are gathered or joined, and lists of bits.
---   gather-hit, gather-miss    one more, of the kind or not
---   gather-like         what is gathered depends on what is looked at
---   gather-map          what is gathered, through a function
---   gather-length       how many are gathered does not depend on what is gathered of each
+-- Lists that are joined, and lists of bits.
 --   before-hit, before-miss    how many of a kind stand before the next node
 --   before-less         a node of the kind has a place among all of that kind
 --   joined-first        joined lists, the first apart
---   rows-length, rows-at, rows-past    n rows of one number each, and what stands past them
+--   rows-past           what stands past n rows of one number each
 --   bits-at, bits-take, bits-drop    a member of a list of bits is 0 or 1; its parts are lists of bits
 --   bits-append, bits-gather    so are two in a row, and gathered bits
 use Prim.Native.Nat.{ℕ, zero, suc, _+_, _-_, _<_, _≤_}
 use native.Mathlib.Omega.{arith}
 use native.Mathlib.Decide.{ℕ-discrete}
-use mathlib.Core.Path.{_≡_, refl, sym, ap, ap₂, _∙_}
-use mathlib.Core.Bool.{Bool, true, false}
-use mathlib.Core.List.{List, [], _∷_, _++_, map, append-assoc, append-nil, map-append}
-use lib.Dec.{eqb, leb}
-use lib.ListN.{length, getD, take, drop, length-append, List·getD-append}
-use lib.Seq.{getD-at, drop-append-add, drop-drop}
-use borrow.Author.Tests.{leb-true, le-leb, eq-eqb, ne-eqb}
-use Rattle.theory.specs.Clock.{only, gather}
+use mathlib.Core.Path.{_≡_, refl, sym, ap, _∙_}
+use mathlib.Core.Bool.{true}
+use mathlib.Core.List.{List, [], _∷_, _++_, append-assoc, append-nil}
+use lib.Dec.{leb}
+use lib.ListN.{length, getD, take, drop, length-append}
+use lib.Seq.{drop-append-add, drop-drop}
+use borrow.Author.Tests.{leb-true, le-leb}
+use Rattle.theory.specs.Clock.{gather}
+use Rattle.theory.proofs.clocks.Seen.{gather-hit, gather-miss}
 use Rattle.netlist.specs.declared.Netlist.{Netlist}
 use Rattle.netlist.specs.Net.{graphOf}
 use Rattle.netlist.specs.Write.{joined}
-use Rattle.netlist.proofs.Rows.{joined-split}
+use Rattle.netlist.proofs.Rows.{rows-length}
 use Rattle.netlist.proofs.Fits.{both}
 use Rattle.simulate.specs.Clock.{earlier}
 use Rattle.simulate.specs.Step.{onlyBits}
-
--- ── Gathered ────────────────────────────────────────────────────────────────────────────────
-
-module _ (kind f : ℕ → ℕ) (k n : ℕ) where
-  pub gather-hit : kind n ≡ k → gather kind f k (suc n) ≡ gather kind f k n ++ (f n ∷ [])
-  unfolding gather only
-  gather-hit q = rw (eq-eqb (kind n) k q)
-
-  pub gather-miss : ¬ (kind n ≡ k) → gather kind f k (suc n) ≡ gather kind f k n
-  unfolding gather only
-  gather-miss q = rw (ne-eqb (kind n) k q) (append-nil (gather kind f k n))
-
--- By cases at the last one, from which both sides have one more or none.
-pub gather-like : (kind kind′ f g : ℕ → ℕ) (k n : ℕ) → ((i : ℕ) → i < n → kind i ≡ kind′ i) → ((i : ℕ) → i < n → kind i ≡ k → f i ≡ g i)
-    → gather kind f k n ≡ gather kind′ g k n
-unfolding gather
-gather-like kind kind′ f g k zero a b = refl
-gather-like kind kind′ f g k (suc n) a b = go (ℕ-discrete (kind n) k) (gather-like kind kind′ f g k n (λ i h. a i (omega arith)) (λ i h. b i (omega arith)))
-  where
-    go : Dec (kind n ≡ k) → gather kind f k n ≡ gather kind′ g k n → gather kind f k (suc n) ≡ gather kind′ g k (suc n)
-    go (yes q) e = gather-hit kind f k n q ∙ ap₂ (λ l x. l ++ (x ∷ [])) e (b n (omega arith) q) ∙ sym (gather-hit kind′ g k n (sym (a n (omega arith)) ∙ q))
-    go (no q) e = gather-miss kind f k n q ∙ e ∙ sym (gather-miss kind′ g k n (λ p. q (a n (omega arith) ∙ p)))
-
-pub gather-map : (g dst f : ℕ → ℕ) (v n : ℕ) → map g (gather dst f v n) ≡ gather dst (λ e. g (f e)) v n
-unfolding gather only
-gather-map g dst f v zero = refl
-gather-map g dst f v (suc n) = map-append g (gather dst f v n) (only (eqb (dst n) v) f n) ∙ ap₂ _++_ (gather-map g dst f v n) (last (eqb (dst n) v))
-  where
-    last : (b : Bool) → map g (only b f n) ≡ only b (λ e. g (f e)) n
-    last true = refl
-    last false = refl
-
-pub gather-length : (kind f g : ℕ → ℕ) (k n : ℕ) → length (gather kind f k n) ≡ length (gather kind g k n)
-unfolding gather
-gather-length kind f g k zero = refl
-gather-length kind f g k (suc n) = go (ℕ-discrete (kind n) k) (gather-length kind f g k n)
-  where
-    go : Dec (kind n ≡ k) → length (gather kind f k n) ≡ length (gather kind g k n) → length (gather kind f k (suc n)) ≡ length (gather kind g k (suc n))
-    go (yes q) e = rw (gather-hit kind f k n q, gather-hit kind g k n q) (simp length-append (omega arith))
-    go (no q) e = rw (gather-miss kind f k n q, gather-miss kind g k n q) e
 
 module _ (net : Netlist) (k : ℕ) where
   pub before-hit : (v : ℕ) → graphOf net .kind v ≡ k → earlier net k (suc v) ≡ suc (earlier net k v)
@@ -93,25 +50,13 @@ unfolding joined
 joined-first f zero = sym (append-nil (f 0))
 joined-first f (suc n) = ap (λ l. l ++ f (suc n)) (joined-first f n) ∙ append-assoc (f 0) (joined (λ i. f (suc i)) n) (f (suc n))
 
-module _ (f : ℕ → ℕ) where
-  pub rows-length : (n : ℕ) → length (joined (λ i. f i ∷ []) n) ≡ n
-  unfolding joined
-  rows-length zero = refl
-  rows-length (suc n) = length-append (joined (λ i. f i ∷ []) n) (f n ∷ []) ∙ omega (arith, rows-length n)
-
-  pub rows-at : (n i : ℕ) (past : List ℕ) → i < n → getD (joined (λ i. f i ∷ []) n ++ past) i 0 ≡ f i
-  rows-at n i past h =
-      let s = joined-split (λ i. f i ∷ []) n i h in
-      List·getD-append (joined (λ i. f i ∷ []) n) past 0 i (omega (arith, rows-length n))
-      ∙ ap (λ l. getD l i 0) (s .1) ∙ getD-at (joined (λ i. f i ∷ []) i) (f i) (s .0) 0 i (rows-length i)
-
-  -- The first n are rows, and the others are those of the list.
-  pub rows-past : (n m : ℕ) (past : List ℕ) → n ≤ m → drop m (joined (λ i. f i ∷ []) n ++ drop n past) ≡ drop m past
-  rows-past n m past h =
-      let xs = joined (λ i. f i ∷ []) n in
-      let e : m ≡ length xs + (m - n) = omega (arith, rows-length n) in
-      let f : n + (m - n) ≡ m = omega arith in
-      ap (λ i. drop i (xs ++ drop n past)) e ∙ drop-append-add xs (drop n past) (m - n) ∙ drop-drop (m - n) n past ∙ ap (λ i. drop i past) f
+-- The first n are rows, and the others are those of the list.
+pub rows-past : (f : ℕ → ℕ) (n m : ℕ) (past : List ℕ) → n ≤ m → drop m (joined (λ i. f i ∷ []) n ++ drop n past) ≡ drop m past
+rows-past f n m past h =
+    let xs = joined (λ i. f i ∷ []) n in
+    let e : m ≡ length xs + (m - n) = omega (arith, rows-length f n) in
+    let q : n + (m - n) ≡ m = omega arith in
+    ap (λ i. drop i (xs ++ drop n past)) e ∙ drop-append-add xs (drop n past) (m - n) ∙ drop-drop (m - n) n past ∙ ap (λ i. drop i past) q
 
 -- ── Bits ────────────────────────────────────────────────────────────────────────────────────
 

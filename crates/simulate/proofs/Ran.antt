@@ -5,7 +5,7 @@
 --   clock-puts, clock-leaves    what they do is one clock: outputs, words
 --   clock-size, clock-bits    its signals are as many as before, and bits
 --   Running, running-start, running-turn, running-end    the loop
---   vector-in, outputs-in, room-in, begun-bits    what each turn finds
+--   turn-room, begun-bits    what each turn finds
 use Prim.Native.Nat.{ℕ, suc, _+_, _-_, _*_, _<_, _≤_}
 use native.Mathlib.Omega.{arith}
 use native.Mathlib.Nat.{suc-mul, mul-le-mul-right}
@@ -15,7 +15,7 @@ use mathlib.Core.Bool.{true}
 use mathlib.Core.List.{List, [], _∷_, _++_, append-assoc, append-nil}
 use lib.ListN.{length, take, drop, length-append, replicate}
 use lib.Seq.{sets, length-sets, getD-take, getD-drop, drop-drop}
-use Rattle.frame.proofs.Laws.{sets-sets}
+use Rattle.frame.proofs.Buffers.{sets-sets}
 use Rattle.theory.specs.Clock.{gather}
 use Rattle.theory.proofs.clocks.Seen.{gather-same}
 use Rattle.graph.specs.Columns.{at}
@@ -24,13 +24,12 @@ use Rattle.gates.proofs.Row.{evaluated-length, evaluated-bits}
 use Rattle.netlist.specs.declared.Netlist.{Netlist}
 use Rattle.netlist.specs.Answer.{value}
 use Rattle.netlist.specs.Net.{zeros, graphOf}
-use Rattle.netlist.specs.Read.{Judged, five, six, seven, sound, Reads}
-use Rattle.netlist.proofs.Fits.{clash, edge-fits}
+use Rattle.netlist.specs.Read.{Reads}
+use Rattle.netlist.proofs.Fits.{edge-fits}
 use Rattle.netlist.proofs.Rows.{zeros-at, joined-same}
 use Rattle.netlist.proofs.Run.{fit-rows, fit-wired}
-use Rattle.netlist.proofs.theorems.Lines.{lines-fact}
-use Rattle.netlist.proofs.theorems.Refusals.{none-fact}
-use Rattle.netlist.proofs.theorems.Sound.{reads-value}
+use Rattle.netlist.proofs.theorems.Refusals.{judged-zero}
+use Rattle.netlist.proofs.theorems.Sound.{reads-value, reads-keeps}
 use Rattle.simulate.specs.declared.plan.Plan.{Plan}
 use Rattle.simulate.specs.Clock.{earlier, inputs, outputs, inputByte, values, outputValues, shifted, wordsAfter}
 use Rattle.simulate.specs.Step.{onlyBits}
@@ -45,19 +44,10 @@ use Rattle.simulate.proofs.Evaluated.{Right, right-values}
 
 -- Reading puts nothing out.
 pub reads-zero : {t : List ℕ} {n : ℕ} {net : Netlist} → Reads t (value n) net → n ≡ 0
-reads-zero {n = n} {net = net} r = go (reads-value r .1)
-  where
-    go : Judged net (value n) → n ≡ 0
-    go (five v l q) = clash (cc)
-    go (six a o q) = clash (cc)
-    go (seven a o v l q) = clash (cc)
-    go (sound a o j q) = cc
+reads-zero {net = net} r = judged-zero net (reads-value r .1)
 
 pub reads-steppable : {t : List ℕ} {n : ℕ} {net : Netlist} → Reads t (value n) net → Steppable net
-reads-steppable {t} {n} {net} r =
-    let k = reads-value r in
-    let j = none-fact (k .1) (ap value (reads-zero r)) in
-    record { fit = lines-fact t net .0 (k .0) .0; fans = j .0; no-loop = j .1 }
+reads-steppable r = let k = reads-keeps r in record { fit = k .lines; fans = k .fan-in; no-loop = k .no-loop }
 
 -- ── One clock ───────────────────────────────────────────────────────────────────────────────
 
@@ -176,14 +166,10 @@ module _ (net : Netlist) (n : ℕ) (words₀ vectors old : List ℕ) (ask : Runn
 
   module _ {t taken given : ℕ} {s : State} (h : t < n) (r : Running net n words₀ vectors old t taken given s) where
     -- There is a vector left, and room for its outputs.
-    pub vector-in : taken + inputs net ≤ length vectors
-    vector-in = omega (arith, part-in t n (inputs net) h, r .vectors-taken, ask .whole)
-
-    pub outputs-in : given + outputs net ≤ length old
-    outputs-in = omega (arith, part-in t n (outputs net) h, r .outputs-given, ask .room)
-
-    pub room-in : given + outputs net ≤ length (s .out)
-    room-in = omega (arith, outputs-in, ap length (r .puts), length-sets old 0 (r .done))
+    pub turn-room : (taken + inputs net ≤ length vectors) × (given + outputs net ≤ length old) × (given + outputs net ≤ length (s .out))
+    turn-room =
+        let o : given + outputs net ≤ length old = omega (arith, part-in t n (outputs net) h, r .outputs-given, ask .room) in
+        (omega (arith, part-in t n (inputs net) h, r .vectors-taken, ask .whole), o, omega (arith, ap length (r .puts), length-sets old 0 (r .done)))
 
     -- A clock begins: its signals are bits.
     pub begun-bits : (begun : List ℕ) → SignalsSet (net .kind) (net .nodes) (s .words) (net .edges) vectors taken (s .sig) begun → AllBits begun

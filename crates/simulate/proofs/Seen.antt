@@ -4,29 +4,23 @@
 --   first-low           and no part begins past the edges
 --   seen-count          a node's part is as long as its fan-in
 --   seen-signals        the signals of a node's part, in the order of the edges
-use Prim.Native.Nat.{ℕ, zero, suc, _+_, _-_, _≤_, _<_}
+use Prim.Native.Nat.{ℕ, suc, _+_, _-_, _≤_, _<_}
 use native.Mathlib.Omega.{arith}
-use mathlib.Core.Path.{_≡_, refl, ap, ap₂, _∙_}
-use mathlib.Core.List.{List, _∷_, map}
+use mathlib.Core.Path.{_≡_, ap, ap₂, _∙_}
+use mathlib.Core.List.{List, map}
 use lib.ListN.{length, take, drop, length-append}
-use lib.Seq.{drop-cons}
 use Rattle.theory.specs.Clock.{gather}
+use Rattle.theory.proofs.clocks.Seen.{gather-map}
 use Rattle.graph.specs.Columns.{at, fan-in}
 use Rattle.graph.specs.inner.Sort.{group, sorted, Sorts}
-use Rattle.graph.proofs.Sorted.{sorted-place, sorted-grows, sorted-part, sorted-room, sorted-length, sets-at}
+use Rattle.graph.proofs.Sorted.{sorted-place, sorted-grows, sorted-part, sorted-room, sorted-length}
+use Rattle.graph.proofs.Sets.{sets-at}
+use Rattle.graph.proofs.Parts.{part-map}
 use Rattle.gates.specs.inner.Gates.{part}
 use Rattle.netlist.specs.declared.Netlist.{Netlist}
 use Rattle.netlist.specs.Net.{graphOf}
 use Rattle.netlist.specs.Theorems.{Fit}
 use Rattle.netlist.proofs.Run.{fit-wired}
-use Rattle.simulate.proofs.Lists.{gather-map}
-
-pub part-map : (f : ℕ → ℕ) (xs ys : List ℕ) (n b : ℕ) → b + n ≤ length xs → b + n ≤ length ys → ((k : ℕ) → k < b + n → at ys k ≡ f (at xs k))
-    → take n (drop b ys) ≡ map f (take n (drop b xs))
-part-map f xs ys zero b h l w = refl
-part-map f xs ys (suc n) b h l w =
-    rw (drop-cons xs b 0 (omega arith), drop-cons ys b 0 (omega arith))
-    (ap₂ _∷_ (w b (omega arith)) (part-map f xs ys n (suc b) (omega arith) (omega arith) (λ k m. w k (omega arith))))
 
 module _ (net : Netlist) (f : Fit net) {old ins first : List ℕ} (room : net .edges ≤ length old) (s : Sorts (net .to) (net .edges) (net .nodes) old ins first) where
   all-edges : length (sorted (net .to) (net .edges) (net .nodes)) ≡ net .edges
@@ -55,7 +49,8 @@ module _ (net : Netlist) (f : Fit net) {old ins first : List ℕ} (room : net .e
       let n = at first (suc v) - at first v in
       let low : at first v + n ≤ net .edges = omega (arith, first-rises v h, first-low (suc v) h) in
       let all = sorted (net .to) (net .edges) (net .nodes) in
-      part-map f all sees n (at first v) (omega (arith, all-edges)) (omega arith) (λ k l. w k (omega arith) ∙ ap f (ins-at k (omega arith)))
+      part-map f all sees n (at first v) (at first v) (omega arith) (omega (arith, all-edges))
+      (λ k l. w (at first v + k) (omega arith) ∙ ap f (ins-at (at first v + k) (omega arith)))
       ∙ ap₂ (λ n b. map f (take n (drop b all))) (seen-count v h) (s .begins v (omega arith))
       ∙ ap (map f) (sorted-part (net .to) (net .edges) v (net .nodes) h)
       ∙ gather-map f (at (net .to)) (λ e. e) v (net .edges)

@@ -14,14 +14,15 @@ use mathlib.Core.Path.{_≡_, refl, sym, ap, ap₂, _∙_, subst}
 use mathlib.Core.List.{List, [], _∷_, _++_, append-assoc}
 use lib.ListN.{length, drop, set, length-set, length-append, length-drop}
 use lib.Seq.{getD-set-same, getD-set-other, drop-cons, set-at, getD-drop, getD-append-add, sets, length-sets}
-use Rattle.frame.proofs.Laws.{sets-sets}
+use Rattle.frame.proofs.Buffers.{sets-sets}
 use Rattle.theory.specs.Clock.{gather}
+use Rattle.theory.proofs.clocks.Seen.{gather-hit, gather-miss, gather-length}
 use Rattle.graph.specs.Columns.{at, bit}
 use Rattle.gates.proofs.Row.{bits-set}
 use Rattle.netlist.specs.Write.{joined}
+use Rattle.netlist.proofs.Rows.{rows-length}
 use Rattle.simulate.specs.Clock.{shifted}
 use Rattle.simulate.specs.inner.Signals.{among, Entered, RegistersShown, SignalsSet, shiftedAt, shiftedTo}
-use Rattle.simulate.proofs.Lists.{gather-hit, gather-miss, gather-length, rows-length}
 
 -- ── What the registers show ─────────────────────────────────────────────────────────────────
 

@@ -5,29 +5,20 @@
 --   moved-fits          it has no bit at or above the count
 use Prim.Native.Nat.{ℕ, zero, suc, _+_, _-_, _*_, _^_, _/_, _%_, _<_, _≤_}
 use native.Mathlib.Omega.{arith}
-use native.Mathlib.Nat.{pow-suc, mul-assoc, add-comm, add-mul-div-right, add-mul-mod-self-right, mod-eq-of-lt}
-use mathlib.Core.Path.{_≡_, refl, sym, ap, _∙_, subst}
+use mathlib.Core.Path.{_≡_, refl, ap, _∙_, subst}
 use borrow.Author.Tests.{ne-eqb}
-use lib.Arith.{digits-lt}
-use lib.Pow.{pow-pos, pow-add, shr-lt, shr-shr, high}
+use lib.Pow.{shr-lt, shr-shr}
+use Rattle.theory.proofs.numbers.Bits.{bit-below, bit-top, bit-fits}
 use Rattle.graph.specs.Columns.{bit}
 use Rattle.simulate.specs.Clock.{shifted}
 
 pub moved-some : (w k word x : ℕ) → suc k ≡ w → shifted w word x ≡ word / 2 + x * 2 ^ k
 moved-some w k word x e = rw (ne-eqb w 0 (omega arith)) (ap (λ n. word / 2 + x * 2 ^ n) (omega arith))
 
--- The value was put d + 1 bits above bit k: an even number of times 2 ^ k.
-low-bit : (word x d k : ℕ) → bit (word / 2 + x * 2 ^ (suc d + k)) k ≡ bit word (suc k)
-low-bit word x d k =
-    ap (λ y. (word / 2 + x * y) / 2 ^ k % 2) (pow-add 2 (suc d) k) ∙ ap (λ y. (word / 2 + y) / 2 ^ k % 2) (sym (mul-assoc x (2 ^ suc d) (2 ^ k)))
-    ∙ ap (λ y. y % 2) (add-mul-div-right (word / 2) (x * 2 ^ suc d) (pow-pos k))
-    ∙ ap (λ y. (word / 2 / 2 ^ k + x * y) % 2) (pow-suc 2 d) ∙ ap (λ y. (word / 2 / 2 ^ k + y) % 2) (sym (mul-assoc x (2 ^ d) 2))
-    ∙ add-mul-mod-self-right (word / 2 / 2 ^ k) (x * 2 ^ d) 2 ∙ ap (λ y. y % 2) (shr-shr word 1 k) ∙ ap (bit word) (omega arith)
-
 pub moved-low : (w word x k : ℕ) → suc k < w → bit (shifted w word x) k ≡ bit word (suc k)
 moved-low w word x k h =
     let d = w - suc (suc k) in
-    ap (λ n. bit n k) (moved-some w (suc d + k) word x (omega arith)) ∙ low-bit word x d k
+    ap (λ n. bit n k) (moved-some w (suc d + k) word x (omega arith)) ∙ bit-below (word / 2) x d k ∙ ap (λ y. y % 2) (shr-shr word 1 k) ∙ ap (bit word) (omega arith)
 
 module _ (word x w k : ℕ) (e : suc k ≡ w) (h : word < 2 ^ w) (l : x ≤ 1) where
   half-fits : word / 2 < 2 ^ k
@@ -35,15 +26,10 @@ module _ (word x w k : ℕ) (e : suc k ≡ w) (h : word < 2 ^ w) (l : x ≤ 1) w
 
   -- The word's own half stands below the top.
   pub moved-top : bit (shifted w word x) k ≡ x
-  moved-top =
-      ap (λ n. bit n k) (moved-some w k word x e ∙ add-comm (word / 2) (x * 2 ^ k))
-      ∙ ap (λ y. y % 2) (high x k half-fits)
-      ∙ mod-eq-of-lt (omega arith)
+  moved-top = ap (λ n. bit n k) (moved-some w k word x e) ∙ bit-top (word / 2) x k half-fits l
 
   half-above : shifted w word x < 2 ^ w
-  half-above =
-      let d : x * 2 ^ k + word / 2 < 2 * 2 ^ k = digits-lt (omega arith) half-fits in
-      omega (arith, pow-suc 2 k, moved-some w k word x e, ap (λ n. 2 ^ n) e)
+  half-above = omega (arith, bit-fits (word / 2) x k half-fits l, moved-some w k word x e, ap (λ n. 2 ^ n) e)
 
 pub moved-fits : (word x w : ℕ) → word < 2 ^ w → x ≤ 1 → shifted w word x < 2 ^ w
 moved-fits word x zero h l = h

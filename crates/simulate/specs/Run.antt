@@ -1,16 +1,17 @@
 -- Running. "Running is stepping from the start values, one clock per vector. Each clock takes the words that the last one left, and nothing else writes them meanwhile."
 --   clocksFrom          what n clocks put out
 --   clocks              how many clocks the vectors are for
---   runSays             what a run says of a netlist that is sound: 13, 12 or how many bytes it puts out
+--   runFits             the tests of 13
 --   Runs t vectors old s new
 use mathlib.Core.Path.{_≡_}
-use mathlib.Core.Bool.{cond}
+use mathlib.Core.Bool.{Bool, false}
 use mathlib.Core.List.{List, [], _∷_, _++_}
 use Prim.Native.Nat.{ℕ, zero, suc, _*_, _/_, _%_}
 use lib.Dec.{eqb}
 use lib.ListN.{length, take, drop}
 use Rattle.netlist.specs.declared.Netlist.{Netlist}
-use Rattle.netlist.specs.Answer.{Said, whole, andThen, needs, holds}
+use Rattle.netlist.specs.Answer.{Said, whole, holds}
+use Rattle.netlist.specs.Order.{_orElse_, Given, Stops, Needs}
 use Rattle.rules.specs.Rules.{every}
 use Rattle.netlist.specs.Read.{Reads}
 use Rattle.simulate.specs.Clock.{inputs, outputs, outputValues, wordsAfter}
@@ -27,15 +28,15 @@ clocksFrom net (suc n) words vectors =
 abbrev pub clocks : Netlist → List ℕ → ℕ
 clocks net vectors = length vectors / inputs net
 
--- "13 (whole): vector bytes not a multiple of the inputs, a byte above 1". "running … with 13, 12 (… running one per clock)".
-unfoldable pub runSays : Netlist → List ℕ → ℕ → Said
-runSays net vectors room =
-    cond (every (eqb (length vectors % inputs net) 0 ∷ onlyBits vectors ∷ [])) (needs (clocks net vectors * outputs net) room) (whole 13)
+-- The opposite of "13 (whole): vector bytes not a multiple of the inputs, a byte above 1".
+abbrev pub runFits : Netlist → List ℕ → Bool
+runFits net vectors = every (eqb (length vectors % inputs net) 0 ∷ onlyBits vectors ∷ [])
 
 -- Running the text t on these vectors, into a buffer that held `old`, says s and leaves `new`.
 pub record Runs (t vectors old : List ℕ) (s : Said) (new : List ℕ) : Type 0 where
   pub checked : Said
   pub net : Netlist
   pub reads : Reads t checked net
-  pub answer : s ≡ andThen checked (runSays net vectors (length old))
+  -- "running … with 13, 12 (… running one per clock)".
+  pub answer : (Stops checked orElse Given (runFits net vectors ≡ false) (whole 13) orElse Needs (clocks net vectors * outputs net) (length old)) s
   pub buffer : new ≡ holds s (clocksFrom net (clocks net vectors) (net .start) vectors) old

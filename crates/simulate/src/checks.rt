@@ -1,14 +1,11 @@
 // Rule 13, and how many inputs and outputs there are.
 // Required: a netlist that passed the rules, which `run` and `step` check first.
 ghost use mathlib.Core.Path.{_≡_};
-ghost use mathlib.Core.List.{[], _∷_};
 ghost use Prim.Native.Nat.{_≤_};
-ghost use lib.Dec.{eqb};
 ghost use lib.ListN.{length};
-ghost use Rattle.rules.specs.Rules.{every};
 ghost use Rattle.netlist.specs.Theorems.{Fit};
-ghost use Rattle.simulate.specs.Clock.{earlier, inputs};
-ghost use Rattle.simulate.specs.Step.{onlyBits, wordsFit};
+ghost use Rattle.simulate.specs.Clock.{earlier};
+ghost use Rattle.simulate.specs.Step.{onlyBits, wordsFit, stepFits};
 use netlist::Netlist;
 use rules::bits_fit;
 
@@ -62,7 +59,7 @@ fn words_fit(net: Netlist, words: &[u32]) -> bool
 // Rule 13 of stepping: one vector, of bits, and words that fit.
 pub fn step_fits(net: Netlist, words: &[u32], vector: &[u8]) -> bool
     requires { ⌜ Fit net × (net .edges ≤ length (now words)) ⌝ }
-    ensures { λ r. ⌜ r ≡ every (eqb (length (now (vector .entry))) (inputs net) ∷ onlyBits (now (vector .entry)) ∷ wordsFit net (now (words .entry)) (net .edges) ∷ []) ⌝ }
+    ensures { λ r. ⌜ r ≡ stepFits net (now (words .entry)) (now (vector .entry)) ⌝ }
 {
     if vector.len() != count_kind(net, 0) {
         return false;

@@ -1,6 +1,7 @@
 // One clock, over columns: nothing is copied. sig holds each node's signal, and from 512 on what each edge shows from its register; words each
-// edge's word. A clock is `enter`, gates' `evaluate`, `leave`.
+// edge's word. A clock is `enter`, gates' `evaluate`, `put_outputs`, `shift`.
 // Required: a plan of a netlist that passed the rules, and buffers of its sizes. `clocks_of` has them.
+use graph::NODES;
 ghost use mathlib.Core.Path.{_≡_};
 ghost use Prim.Native.Nat.{_+_, _^_, _<_, _≤_};
 ghost use lib.ListN.{length};
@@ -18,7 +19,7 @@ fn show_registers(words: &[u32], edges: usize, sig: &mut [u8])
 {
     let mut e = 0;
     while e < edges {
-        sig[512 + e] = (words[e] % 2) as u8;
+        sig[NODES + e] = (words[e] % 2) as u8;
         e += 1;
     }
 }
@@ -70,7 +71,7 @@ fn shift_in(word: u32, w: u32, x: u32) -> u32
 }
 
 // The words after a clock with these signals.
-fn shift<'a>(from: &'a [u16], count: &'a [u8], edges: usize, sig: &[u8], words: &mut [u32])
+pub fn shift<'a>(from: &'a [u16], count: &'a [u8], edges: usize, sig: &[u8], words: &mut [u32])
     requires { ⌜ Movable (now from) (now count) edges (now words) (length (now sig)) × AllBits (now sig) ⌝ }
     ensures { λ _. ⌜ now (words .exit) ≡ shiftedTo (now (from .entry)) (now (count .entry)) (now (sig .entry)) (now (words .entry)) edges ⌝ }
 {
@@ -83,7 +84,7 @@ fn shift<'a>(from: &'a [u16], count: &'a [u8], edges: usize, sig: &[u8], words: 
 }
 
 // The outputs' signals, one byte each in node order, at `at0`.
-fn put_outputs(kind: &[u8], nodes: usize, sig: &[u8], out: &mut [u8], at0: usize)
+pub fn put_outputs(kind: &[u8], nodes: usize, sig: &[u8], out: &mut [u8], at0: usize)
     requires { ⌜ (nodes ≤ length (now kind)) × (nodes ≤ length (now sig)) × (at0 + among (now kind) 1 nodes ≤ length (now out)) ⌝ }
     ensures { λ _. ⌜ now (out .exit) ≡ sets (now (out .entry)) at0 (gathered (at (now (kind .entry))) (at (now (sig .entry))) 1 nodes) ⌝ }
 {
@@ -96,25 +97,4 @@ fn put_outputs(kind: &[u8], nodes: usize, sig: &[u8], out: &mut [u8], at0: usize
         }
         v += 1;
     }
-}
-
-// A clock ends: its outputs go to `at0`, and the words move on.
-pub fn leave<'a>(
-    kind: &'a [u8],
-    nodes: usize,
-    from: &'a [u16],
-    count: &'a [u8],
-    edges: usize,
-    sig: &[u8],
-    words: &mut [u32],
-    out: &mut [u8],
-    at0: usize,
-)
-    requires { ⌜ (nodes ≤ length (now kind)) × (nodes ≤ length (now sig)) × (at0 + among (now kind) 1 nodes ≤ length (now out)) ⌝ }
-    requires { ⌜ Movable (now from) (now count) edges (now words) (length (now sig)) × AllBits (now sig) ⌝ }
-    ensures { λ _. ⌜ now (out .exit) ≡ sets (now (out .entry)) at0 (gathered (at (now (kind .entry))) (at (now (sig .entry))) 1 nodes) ⌝ }
-    ensures { λ _. ⌜ now (words .exit) ≡ shiftedTo (now (from .entry)) (now (count .entry)) (now (sig .entry)) (now (words .entry)) edges ⌝ }
-{
-    put_outputs(kind, nodes, sig, out, at0);
-    shift(from, count, edges, sig, words);
 }

@@ -5,6 +5,7 @@ mod plan;
 mod running;
 mod stepping;
 
+use graph::EDGES;
 use netlist::Answer;
 pub use running::run;
 pub use stepping::step;
@@ -13,7 +14,7 @@ pub use stepping::step_in_place;
 // "a machine record: one 32-bit word per edge, laid out as start values; words past the E-th are neither read nor changed."
 #[repr(C)]
 pub struct Machine {
-    pub words: [u32; 1024],
+    pub words: [u32; EDGES],
 }
 
 pub struct Stepped {

@@ -1,11 +1,14 @@
 // Running: clocks in a row, one per vector.
+use graph::EDGES;
+use graph::NODES;
 ghost use Rattle.netlist.specs.Answer.{says};
 ghost use Rattle.simulate.specs.inner.Ran.{Runnable, Ran};
 ghost use Rattle.simulate.specs.Run.{Runs};
 use crate::checks::are_bits;
 use crate::checks::count_kind;
 use crate::clocks::enter;
-use crate::clocks::leave;
+use crate::clocks::put_outputs;
+use crate::clocks::shift;
 use crate::plan::plan_of;
 use gates::evaluate;
 use netlist::Answer;
@@ -16,11 +19,11 @@ use netlist::Place;
 // The plan's columns are copied first: a call can borrow several fields of one record for one lifetime only, and `evaluate` has one for each column.
 pub fn clocks_of(
     net: Netlist,
-    start: [u32; 1024],
+    start: [u32; EDGES],
     clocks: usize,
     vectors: &[u8],
     out: &mut [u8],
-) -> [u32; 1024]
+) -> [u32; EDGES]
     requires { ⌜ Runnable net clocks start (now vectors) (now out) ⌝ }
     ensures { λ r. ⌜ Ran net clocks start (now (vectors .entry)) (now (out .entry)) r (now (out .exit)) ⌝ }
 {
@@ -36,24 +39,15 @@ pub fn clocks_of(
     let truth = p.truth;
     let index = p.index;
     let mut words = start;
-    let mut sig = [0u8; 1536];
+    let mut sig = [0u8; NODES + EDGES];
     let mut taken = 0;
     let mut given = 0;
     let mut t = 0;
     while t < clocks {
         enter(&net.kind, nodes, &words, edges, vectors, taken, &mut sig);
         evaluate(&node, &truth, &index, &first, &sees, gates, 0, &mut sig);
-        leave(
-            &net.kind,
-            nodes,
-            &net.from,
-            &net.count,
-            edges,
-            &sig,
-            &mut words,
-            out,
-            given,
-        );
+        put_outputs(&net.kind, nodes, &sig, out, given);
+        shift(&net.from, &net.count, edges, &sig, &mut words);
         taken += inputs;
         given += outputs;
         t += 1;

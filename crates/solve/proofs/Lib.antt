@@ -1,9 +1,9 @@
 -- Spans, cell by cell.
 pub mod Spanning
--- New numbers, cell by cell.
+-- New numbers, cell by cell and level by level.
 pub mod Numbering
+pub mod Levelling
 -- The program copied under the new numbers.
-pub mod Sums
 pub mod Renumbering
 -- The program under the new numbers gives the same.
 pub mod Programs

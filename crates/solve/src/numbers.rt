@@ -1,15 +1,16 @@
 // New numbers for the cells: by level, the leading bits that a cell depends on; within a level in the order in which what is due needs them.
 // Private to the crate: `solve` hands on the right program that it asks for.
+use crate::CELLS;
+use crate::FEW_CELLS;
+use crate::LEVELS;
+use crate::NONE;
 use crate::spans::spans;
 ghost use mathlib.Core.Path.{_≡_};
-ghost use Prim.Native.Nat.{ℕ, suc, _/_, _≤_, _<_};
+ghost use Prim.Native.Nat.{ℕ, _/_, _≤_, _<_};
 ghost use lib.ListN.{length};
 ghost use Rattle.graph.specs.Columns.{at};
-ghost use Rattle.solve.specs.inner.Parts.{OperandsWired, BitsBelow};
-ghost use Rattle.solve.specs.inner.Numbers.{Layered, Missing, Numbered, Extended, Ranked};
-
-// No number yet.
-const NONE: u16 = 12288;
+ghost use Rattle.solve.specs.inner.Parts.{OperandsWired};
+ghost use Rattle.solve.specs.inner.Numbers.{layersOf, Layered, Missing, Numbered, Extended, LevelNumbered, CanNumber, Ranked};
 
 // A cell of the same level that cell i needs and that has no number yet; 12,288 where there is none.
 fn missing(
@@ -21,7 +22,7 @@ fn missing(
     i: usize,
 ) -> usize
     requires { ⌜ OperandsWired cells (now first) (now operand) × (i < cells) × (cells ≤ length (now span)) × (cells ≤ length (now id)) ⌝ }
-    ensures { λ r. ⌜ Missing (now (first .entry)) (now (operand .entry)) (now (span .entry)) (now (id .entry)) i r ⌝ }
+    ensures { λ r. ⌜ Missing (layersOf cells (now (first .entry)) (now (operand .entry)) (now (span .entry))) (now (id .entry)) i r ⌝ }
 {
     let end = first[i + 1] as usize;
     let mut j = first[i] as usize;
@@ -32,7 +33,7 @@ fn missing(
         }
         j += 1;
     }
-    12288
+    CELLS
 }
 
 // Cell i gets a number, after the cells of its level that it needs; the numbers from n on. The number after them.
@@ -48,9 +49,12 @@ fn number_cell(
     id: &mut [u16],
     code: &mut [u16],
 ) -> usize
-    requires { ⌜ Layered cells (now first) (now operand) (now span) × (cells ≤ length (now stack)) × (i < cells) × (at (now id) i ≡ 12288) ⌝ }
-    requires { ⌜ Numbered cells (at (now span) i) n (now first) (now operand) (now span) (now id) (now code) ⌝ }
-    ensures { λ r. ⌜ Extended cells (at (now (span .entry)) i) n r (now (first .entry)) (now (operand .entry)) (now (span .entry)) (now (code .entry)) (now (id .exit)) (now (code .exit)) × (at (now (id .exit)) i < r) ⌝ }
+    requires { ⌜ Layered (layersOf cells (now first) (now operand) (now span))
+        × (cells ≤ length (now stack)) × (i < cells) × (at (now id) i ≡ 12288) ⌝ }
+    requires { ⌜ Numbered (layersOf cells (now first) (now operand) (now span)) (at (now span) i) n (now id) (now code) ⌝ }
+    ensures { λ r. ⌜ Extended (layersOf cells (now (first .entry)) (now (operand .entry)) (now (span .entry)))
+        (at (now (span .entry)) i) n r (now (code .entry)) (now (id .exit)) (now (code .exit)) ⌝ }
+    ensures { λ r. ⌜ at (now (id .exit)) i < r ⌝ }
 {
     let mut next = n;
     stack[0] = i as u16;
@@ -58,7 +62,7 @@ fn number_cell(
     while 0 < h {
         let top = stack[h - 1] as usize;
         let source = missing(first, operand, span, id, cells, top);
-        if source < 12288 {
+        if source < CELLS {
             stack[h] = source as u16;
             h += 1;
         } else {
@@ -84,9 +88,11 @@ fn number_if(
     id: &mut [u16],
     code: &mut [u16],
 ) -> usize
-    requires { ⌜ Layered cells (now first) (now operand) (now span) × (cells ≤ length (now stack)) × (i < cells) ⌝ }
-    requires { ⌜ Numbered cells m n (now first) (now operand) (now span) (now id) (now code) ⌝ }
-    ensures { λ r. ⌜ Extended cells m n r (now (first .entry)) (now (operand .entry)) (now (span .entry)) (now (code .entry)) (now (id .exit)) (now (code .exit)) × (at (now (span .entry)) i ≡ m → at (now (id .exit)) i < r) ⌝ }
+    requires { ⌜ Layered (layersOf cells (now first) (now operand) (now span)) × (cells ≤ length (now stack)) × (i < cells) ⌝ }
+    requires { ⌜ Numbered (layersOf cells (now first) (now operand) (now span)) m n (now id) (now code) ⌝ }
+    ensures { λ r. ⌜ Extended (layersOf cells (now (first .entry)) (now (operand .entry)) (now (span .entry)))
+        m n r (now (code .entry)) (now (id .exit)) (now (code .exit)) ⌝ }
+    ensures { λ r. ⌜ (at (now (span .entry)) i ≡ m → at (now (id .exit)) i < r) ⌝ }
 {
     if span[i] == m && id[i] == NONE {
         return number_cell(first, operand, span, cells, i, n, stack, id, code);
@@ -102,19 +108,20 @@ fn number_due(
     cells: usize,
     m: u16,
     due: &[u16],
-    total: usize,
     n: usize,
     stack: &mut [u16],
     id: &mut [u16],
     code: &mut [u16],
 ) -> usize
-    requires { ⌜ Layered cells (now first) (now operand) (now span) × (cells ≤ length (now stack)) × (total ≤ length (now due)) × ((x : ℕ) → x < total → at (now due) x / 2 < cells) ⌝ }
-    requires { ⌜ Numbered cells m n (now first) (now operand) (now span) (now id) (now code) ⌝ }
-    ensures { λ r. ⌜ Extended cells m n r (now (first .entry)) (now (operand .entry)) (now (span .entry)) (now (code .entry)) (now (id .exit)) (now (code .exit)) ⌝ }
+    requires { ⌜ Layered (layersOf cells (now first) (now operand) (now span)) × (cells ≤ length (now stack)) ⌝ }
+    requires { ⌜ ((x : ℕ) → x < length (now due) → at (now due) x / 2 < cells) ⌝ }
+    requires { ⌜ Numbered (layersOf cells (now first) (now operand) (now span)) m n (now id) (now code) ⌝ }
+    ensures { λ r. ⌜ Extended (layersOf cells (now (first .entry)) (now (operand .entry)) (now (span .entry)))
+        m n r (now (code .entry)) (now (id .exit)) (now (code .exit)) ⌝ }
 {
     let mut next = n;
     let mut x = 0;
-    while x < total {
+    while x < due.len() {
         let i = (due[x] / 2) as usize;
         next = number_if(first, operand, span, cells, m, i, next, stack, id, code);
         x += 1;
@@ -134,9 +141,11 @@ fn number_rest(
     id: &mut [u16],
     code: &mut [u16],
 ) -> usize
-    requires { ⌜ Layered cells (now first) (now operand) (now span) × (cells ≤ length (now stack)) ⌝ }
-    requires { ⌜ Numbered cells m n (now first) (now operand) (now span) (now id) (now code) ⌝ }
-    ensures { λ r. ⌜ Extended cells m n r (now (first .entry)) (now (operand .entry)) (now (span .entry)) (now (code .entry)) (now (id .exit)) (now (code .exit)) × ((i : ℕ) → i < cells → at (now (span .entry)) i ≡ m → at (now (id .exit)) i < r) ⌝ }
+    requires { ⌜ Layered (layersOf cells (now first) (now operand) (now span)) × (cells ≤ length (now stack)) ⌝ }
+    requires { ⌜ Numbered (layersOf cells (now first) (now operand) (now span)) m n (now id) (now code) ⌝ }
+    ensures { λ r. ⌜ Extended (layersOf cells (now (first .entry)) (now (operand .entry)) (now (span .entry)))
+        m n r (now (code .entry)) (now (id .exit)) (now (code .exit)) ⌝ }
+    ensures { λ r. ⌜ LevelNumbered (layersOf cells (now (first .entry)) (now (operand .entry)) (now (span .entry))) m r (now (id .exit)) ⌝ }
 {
     let mut next = n;
     let mut i = 0;
@@ -155,51 +164,40 @@ fn number_level(
     cells: usize,
     m: u16,
     due: &[u16],
-    total: usize,
     n: usize,
     stack: &mut [u16],
     id: &mut [u16],
     code: &mut [u16],
 ) -> usize
-    requires { ⌜ Layered cells (now first) (now operand) (now span) × (cells ≤ length (now stack)) × (total ≤ length (now due)) × ((x : ℕ) → x < total → at (now due) x / 2 < cells) ⌝ }
-    requires { ⌜ Numbered cells m n (now first) (now operand) (now span) (now id) (now code) ⌝ }
-    ensures { λ r. ⌜ Extended cells m n r (now (first .entry)) (now (operand .entry)) (now (span .entry)) (now (code .entry)) (now (id .exit)) (now (code .exit)) × ((i : ℕ) → i < cells → at (now (span .entry)) i ≡ m → at (now (id .exit)) i < r) ⌝ }
+    requires { ⌜ Layered (layersOf cells (now first) (now operand) (now span)) × (cells ≤ length (now stack)) ⌝ }
+    requires { ⌜ ((x : ℕ) → x < length (now due) → at (now due) x / 2 < cells) ⌝ }
+    requires { ⌜ Numbered (layersOf cells (now first) (now operand) (now span)) m n (now id) (now code) ⌝ }
+    ensures { λ r. ⌜ Extended (layersOf cells (now (first .entry)) (now (operand .entry)) (now (span .entry)))
+        m n r (now (code .entry)) (now (id .exit)) (now (code .exit)) ⌝ }
+    ensures { λ r. ⌜ LevelNumbered (layersOf cells (now (first .entry)) (now (operand .entry)) (now (span .entry))) m r (now (id .exit)) ⌝ }
 {
-    let next = number_due(
-        first,
-        operand,
-        span,
-        cells,
-        m,
-        due,
-        total,
-        n,
-        stack,
-        id,
-        code,
-    );
+    let next = number_due(first, operand, span, cells, m, due, n, stack, id, code);
     number_rest(first, operand, span, cells, m, next, stack, id, code)
 }
 
-// All cells, level by level.
-pub fn number_cells<'a>(
+// All cells, level by level. Where each level begins.
+fn number_levels<'a>(
     first: &'a [u16],
     operand: &'a [u16],
     cells: usize,
     k: u32,
     due: &[u16],
-    total: usize,
+    span: &mut [u16],
+    stack: &mut [u16],
     id: &mut [u16],
     code: &mut [u16],
-    levels: &mut [u16],
-)
-    requires { ⌜ OperandsWired cells (now first) (now operand) × BitsBelow cells k (now first) (now operand) × (k ≤ 24) × (suc k < length (now levels)) ⌝ }
-    requires { ⌜ (total ≤ length (now due)) × ((x : ℕ) → x < total → at (now due) x / 2 < cells) ⌝ }
-    requires { ⌜ (cells ≤ length (now id)) × (cells ≤ length (now code)) × ((i : ℕ) → i < cells → at (now id) i ≡ 12288) ⌝ }
-    ensures { λ _. ⌜ Ranked cells k (now (first .entry)) (now (operand .entry)) (now (id .exit)) (now (code .exit)) (now (levels .exit)) ⌝ }
+) -> [u16; LEVELS]
+    requires { ⌜ CanNumber cells k (now first) (now operand) (now due) (now id) (now code) ⌝ }
+    requires { ⌜ (cells ≤ length (now span)) × (cells ≤ length (now stack)) ⌝ }
+    ensures { λ r. ⌜ Ranked cells k (now (first .entry)) (now (operand .entry)) (now (id .exit)) (now (code .exit)) r ⌝ }
 {
-    let span = spans(first, operand, cells, k);
-    let mut stack = [0u16; 12288];
+    spans(first, operand, cells, k, span);
+    let mut levels = [0u16; LEVELS];
     let mut n = 0;
     let mut m = 0;
     while m <= k {
@@ -207,17 +205,92 @@ pub fn number_cells<'a>(
         n = number_level(
             first,
             operand,
-            &span,
+            span,
             cells,
             m as u16,
             due,
-            total,
             n,
-            &mut stack,
+            stack,
             id,
             code,
         );
         m += 1;
     }
     levels[m as usize] = n as u16;
+    levels
+}
+
+// At most 512 cells: short columns, which are quickly cleared.
+fn number_few<'a>(
+    first: &'a [u16],
+    operand: &'a [u16],
+    cells: usize,
+    k: u32,
+    due: &[u16],
+    id: &mut [u16],
+    code: &mut [u16],
+) -> [u16; LEVELS]
+    requires { ⌜ CanNumber cells k (now first) (now operand) (now due) (now id) (now code) × (cells ≤ 512) ⌝ }
+    ensures { λ r. ⌜ Ranked cells k (now (first .entry)) (now (operand .entry)) (now (id .exit)) (now (code .exit)) r ⌝ }
+{
+    let mut span = [0u16; FEW_CELLS];
+    let mut stack = [0u16; FEW_CELLS];
+    number_levels(
+        first,
+        operand,
+        cells,
+        k,
+        due,
+        &mut span,
+        &mut stack,
+        id,
+        code,
+    )
+}
+
+// As many as there may be.
+fn number_many<'a>(
+    first: &'a [u16],
+    operand: &'a [u16],
+    cells: usize,
+    k: u32,
+    due: &[u16],
+    id: &mut [u16],
+    code: &mut [u16],
+) -> [u16; LEVELS]
+    requires { ⌜ CanNumber cells k (now first) (now operand) (now due) (now id) (now code) ⌝ }
+    ensures { λ r. ⌜ Ranked cells k (now (first .entry)) (now (operand .entry)) (now (id .exit)) (now (code .exit)) r ⌝ }
+{
+    let mut span = [0u16; CELLS];
+    let mut stack = [0u16; CELLS];
+    number_levels(
+        first,
+        operand,
+        cells,
+        k,
+        due,
+        &mut span,
+        &mut stack,
+        id,
+        code,
+    )
+}
+
+// All cells, in columns of a length that suits them. Where each level begins.
+pub fn number_cells<'a>(
+    first: &'a [u16],
+    operand: &'a [u16],
+    cells: usize,
+    k: u32,
+    due: &[u16],
+    id: &mut [u16],
+    code: &mut [u16],
+) -> [u16; LEVELS]
+    requires { ⌜ CanNumber cells k (now first) (now operand) (now due) (now id) (now code) ⌝ }
+    ensures { λ r. ⌜ Ranked cells k (now (first .entry)) (now (operand .entry)) (now (id .exit)) (now (code .exit)) r ⌝ }
+{
+    if cells <= 512 {
+        return number_few(first, operand, cells, k, due, id, code);
+    }
+    number_many(first, operand, cells, k, due, id, code)
 }

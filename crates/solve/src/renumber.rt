@@ -4,8 +4,9 @@ ghost use mathlib.Core.Path.{_≡_};
 ghost use Prim.Native.Nat.{ℕ, suc, _+_, _-_, _*_, _/_, _%_, _≤_, _<_};
 ghost use lib.ListN.{length};
 ghost use Rattle.graph.specs.Columns.{at};
+ghost use Rattle.search.specs.inner.Program.{programOf};
 ghost use Rattle.solve.specs.inner.Parts.{OperandsWired};
-ghost use Rattle.solve.specs.inner.Numbers.{Paired, renumbered, Copied, Renumbered, Redue};
+ghost use Rattle.solve.specs.inner.Numbers.{Paired, renumbered, Copied, ProgramRenumbered, Redue};
 
 // An operand: a chosen bit stays, a cell has its new number.
 fn renumbered(x: u16, id: &[u16]) -> u16
@@ -25,8 +26,10 @@ fn append_operands(
     operands: &mut [u16],
 ) -> usize
     requires { ⌜ (lo ≤ hi) × (hi ≤ length (now operand)) × (start + (hi - lo) ≤ length (now operands)) ⌝ }
-    requires { ⌜ ((j : ℕ) → lo ≤ j → j < hi → 32 ≤ at (now operand) j → (at (now operand) j - 32 < length (now id)) × (at (now id) (at (now operand) j - 32) < 12288)) ⌝ }
-    ensures { λ r. ⌜ (r ≡ start + (hi - lo)) × Copied (now (operand .entry)) (now (id .entry)) lo hi start (now (operands .entry)) (now (operands .exit)) ⌝ }
+    requires { ⌜ ((j : ℕ) → lo ≤ j → j < hi → 32 ≤ at (now operand) j
+        → (at (now operand) j - 32 < length (now id)) × (at (now id) (at (now operand) j - 32) < 12288)) ⌝ }
+    ensures { λ r. ⌜ (r ≡ start + (hi - lo))
+        × Copied (now (operand .entry)) (now (id .entry)) lo hi start (now (operands .entry)) (now (operands .exit)) ⌝ }
 {
     let mut n = start;
     let mut j = lo;
@@ -50,9 +53,12 @@ pub fn renumber_cells<'a>(
     firsts: &mut [u16],
     operands: &mut [u16],
 )
-    requires { ⌜ OperandsWired cells (now first) (now operand) × ((i : ℕ) → i < cells → at (now first) i ≤ at (now first) (suc i)) × Paired cells (now id) (now code) ⌝ }
-    requires { ⌜ (cells ≤ length (now kind)) × (cells ≤ length (now kinds)) × (suc cells ≤ length (now firsts)) × ((i : ℕ) → i < cells → at (now first) (suc i) ≤ length (now operands)) ⌝ }
-    ensures { λ _. ⌜ Renumbered cells (now (kind .entry)) (now (first .entry)) (now (operand .entry)) (now (id .entry)) (now (code .entry)) (now (kinds .exit)) (now (firsts .exit)) (now (operands .exit)) ⌝ }
+    requires { ⌜ OperandsWired cells (now first) (now operand) × ((i : ℕ) → i < cells → at (now first) i ≤ at (now first) (suc i))
+        × Paired cells (now id) (now code) ⌝ }
+    requires { ⌜ (cells ≤ length (now kind)) × (cells ≤ length (now kinds)) × (suc cells ≤ length (now firsts))
+        × ((i : ℕ) → i < cells → at (now first) (suc i) ≤ length (now operands)) ⌝ }
+    ensures { λ _. ⌜ ProgramRenumbered cells (programOf (now (kind .entry)) (now (first .entry)) (now (operand .entry)))
+        (now (id .entry)) (now (code .entry)) (programOf (now (kinds .exit)) (now (firsts .exit)) (now (operands .exit))) ⌝ }
 {
     firsts[0] = 0;
     let mut n = 0;
@@ -75,7 +81,8 @@ pub fn renumber_cells<'a>(
 
 // The dues, each of the same cell under its new number.
 pub fn renumber_dues(due: &mut [u16], total: usize, id: &[u16])
-    requires { ⌜ (total ≤ length (now due)) × ((x : ℕ) → x < total → (at (now due) x / 2 < length (now id)) × (at (now id) (at (now due) x / 2) < 12288)) ⌝ }
+    requires { ⌜ (total ≤ length (now due)) × ((x : ℕ) → x < total
+        → (at (now due) x / 2 < length (now id)) × (at (now id) (at (now due) x / 2) < 12288)) ⌝ }
     ensures { λ _. ⌜ Redue (now (id .entry)) total (now (due .entry)) (now (due .exit)) ⌝ }
 {
     let mut x = 0;

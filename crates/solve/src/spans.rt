@@ -6,7 +6,7 @@ ghost use lib.ListN.{length};
 ghost use Rattle.graph.specs.Columns.{at};
 ghost use Rattle.solve.specs.inner.Parts.{depth, Most, OperandsWired, BitsBelow, Spans};
 
-// .. an operand: a chosen bit on those up to it, a cell on its span.
+// How many an operand depends on: a chosen bit on those up to it, a cell on its span.
 fn reach_of(x: u16, span: &[u16]) -> u16
     requires { ⌜ (32 ≤ x → x - 32 < length (now span)) ⌝ }
     ensures { λ r. ⌜ r ≡ depth (now (span .entry)) x ⌝ }
@@ -14,7 +14,7 @@ fn reach_of(x: u16, span: &[u16]) -> u16
     if x < 32 { x + 1 } else { span[x as usize - 32] }
 }
 
-// .. a row of operands: the most that one of them does.
+// How many a row of operands depends on: the most that one of them does.
 fn span_of(operand: &[u16], start: usize, end: usize, span: &[u16]) -> u16
     requires { ⌜ end ≤ length (now operand) ⌝ }
     requires { ⌜ ((j : ℕ) → start ≤ j → j < end → 32 ≤ at (now operand) j → at (now operand) j - 32 < length (now span)) ⌝ }
@@ -32,16 +32,14 @@ fn span_of(operand: &[u16], start: usize, end: usize, span: &[u16]) -> u16
     most
 }
 
-// .. each cell, by its operands, which come before it.
-pub fn spans<'a>(first: &'a [u16], operand: &'a [u16], cells: usize, k: u32) -> [u16; 12288]
-    requires { ⌜ OperandsWired cells (now first) (now operand) × BitsBelow cells k (now first) (now operand) ⌝ }
-    ensures { λ r. ⌜ Spans k (now (first .entry)) (now (operand .entry)) r cells ⌝ }
+// How many each cell depends on, by its operands, which come before it.
+pub fn spans<'a>(first: &'a [u16], operand: &'a [u16], cells: usize, k: u32, span: &mut [u16])
+    requires { ⌜ OperandsWired cells (now first) (now operand) × BitsBelow cells k (now first) (now operand) × (cells ≤ length (now span)) ⌝ }
+    ensures { λ _. ⌜ Spans k (now (first .entry)) (now (operand .entry)) (now (span .exit)) cells ⌝ }
 {
-    let mut span = [0u16; 12288];
     let mut i = 0;
     while i < cells {
-        span[i] = span_of(operand, first[i] as usize, first[i + 1] as usize, &span);
+        span[i] = span_of(operand, first[i] as usize, first[i + 1] as usize, span);
         i += 1;
     }
-    span
 }

@@ -1,13 +1,11 @@
 -- The edges by the node that they enter.
 --   Entering            where those of each node stand, and that they are the netlist's
 --   entering            so after sorting
---   part-map, map-at    a part of a list through a function; a member
-use Prim.Native.Nat.{ℕ, zero, suc, _+_, _<_, _≤_}
+use Prim.Native.Nat.{ℕ, suc, _+_, _<_, _≤_}
 use native.Mathlib.Omega.{arith}
-use mathlib.Core.Path.{_≡_, refl, ap₂}
-use mathlib.Core.List.{List, [], _∷_, map}
-use lib.ListN.{length, take, drop}
-use lib.Seq.{drop-cons}
+use mathlib.Core.Path.{_≡_}
+use mathlib.Core.List.{List}
+use lib.ListN.{length}
 use Rattle.theory.specs.Clock.{gather}
 use Rattle.graph.specs.Columns.{at}
 use Rattle.graph.specs.inner.Sort.{Sorts}
@@ -15,7 +13,7 @@ use Rattle.gates.specs.inner.Gates.{part}
 use Rattle.netlist.specs.declared.Netlist.{Netlist}
 use Rattle.simulate.specs.inner.Ran.{Steppable}
 use Rattle.simulate.proofs.Seen.{ins-edge, first-rises, first-low, seen-count, seen-signals}
-use Rattle.simulate.proofs.Plans.{fan-low}
+use Rattle.netlist.proofs.Lowest.{fan-low}
 
 pub record Entering (net : Netlist) (ins first : List ℕ) : Type 0 where
   pub rising : (v : ℕ) → v < net .nodes → at first v ≤ at first (suc v)
@@ -34,16 +32,3 @@ entering net ok room s = record {
   edge = ins-edge net (ok .fit) room s;
   its = seen-signals net (ok .fit) room s;
 }
-
--- Over a stretch the one list has f of the other's.
-pub part-map : (f : ℕ → ℕ) (xs ys : List ℕ) (n b : ℕ) → b + n ≤ length xs → b + n ≤ length ys → ((k : ℕ) → b ≤ k → k < b + n → at ys k ≡ f (at xs k))
-    → take n (drop b ys) ≡ map f (take n (drop b xs))
-part-map f xs ys zero b h l w = refl
-part-map f xs ys (suc n) b h l w =
-    rw (drop-cons xs b 0 (omega arith), drop-cons ys b 0 (omega arith))
-    (ap₂ _∷_ (w b (omega arith) (omega arith)) (part-map f xs ys n (suc b) (omega arith) (omega arith) (λ k a m. w k (omega arith) (omega arith))))
-
-pub map-at : (f : ℕ → ℕ) (xs : List ℕ) (k : ℕ) → k < length xs → at (map f xs) k ≡ f (at xs k)
-map-at f [] k h = absurd (omega arith)
-map-at f (x ∷ xs) zero h = refl
-map-at f (x ∷ xs) (suc k) h = map-at f xs k (omega arith)

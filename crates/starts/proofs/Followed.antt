@@ -1,9 +1,9 @@
 -- The loop over the clocks: what is ready before it, what holds before each clock, and one clock.
 --   Ready               the columns of the netlist, its edges by the node that they enter, its truth words, the table
---   Following           before clock s: the list is right for it, the cells are for the clock before, the ring holds what is needed
+--   Following           before clock s: the list is right for it, the slots are for the clock before, the ring holds what is needed
 --   following-start     before clock 0
 --   following-list      the list, looked through
---   following-turns     the cells can be found
+--   following-turns     the slots can be found
 --   following-truths    their truth words are those of the kinds
 --   following-evaluable the nodes can be evaluated
 --   following-next      one clock
@@ -15,16 +15,18 @@ use mathlib.Core.List.{List}
 use lib.ListN.{length}
 use Rattle.graph.specs.Columns.{at}
 use Rattle.graph.specs.inner.Sort.{Ordered}
+use Rattle.graph.specs.inner.Lists.{Filtered}
 use Rattle.gates.specs.inner.Gates.{Reckons, Table, evaluated, Evaluable, Truths}
 use Rattle.netlist.specs.declared.Netlist.{Netlist}
 use Rattle.simulate.specs.inner.Ran.{Steppable}
 use Rattle.moves.specs.inner.Labels.{Labelled}
+use Rattle.netlist.proofs.Lowest.{count-low}
 use Rattle.moves.proofs.Labels.{from-node, low-nodes, low-edges}
-use Rattle.starts.specs.inner.Ring.{row, AskedAt, Empty, Cells, CellsOf, CellableOf, Kept}
-use Rattle.starts.proofs.Cells.{cell-in}
+use Rattle.starts.specs.inner.Ring.{row, AskedAt, NothingYet, Slots, SlotsOf, SlotableOf}
+use Rattle.starts.proofs.Slots.{slot-in}
 use Rattle.starts.proofs.Entering.{Entering}
 use Rattle.starts.proofs.Listed.{Listed, listed-start, listed-next, Refreshed, refreshed}
-use Rattle.starts.proofs.Held.{edge-width, Held, held-start, held-next}
+use Rattle.starts.proofs.Held.{Held, held-start, held-next}
 
 pub record Ready (net : Netlist) (lab ins first truth index : List ℕ) : Type 0 where
   pub steppable : Steppable net
@@ -35,33 +37,33 @@ pub record Ready (net : Netlist) (lab ins first truth index : List ℕ) : Type 0
   pub truths : (v : ℕ) → v < net .nodes → Reckons (at (net .kind) v) (at first (suc v) - at first v) (at truth v)
   pub table : Table index
 
-pub record Following (net : Netlist) (lab ins first truth index : List ℕ) (clocks s : ℕ) (list : List ℕ) (n : ℕ) (cells ring : List ℕ) : Type 0 where
+pub record Following (net : Netlist) (lab ins first truth index : List ℕ) (clocks s : ℕ) (list : List ℕ) (n : ℕ) (slots ring : List ℕ) : Type 0 where
   pub ready : Ready net lab ins first truth index
   pub clocks-low : clocks ≤ 16384
   pub low : s ≤ clocks
   pub list-rows : length list ≡ 512
-  pub cell-rows : length cells ≡ 1024
+  pub slot-rows : length slots ≡ 1024
   pub listed : Listed net lab s list n
   pub near : (i : ℕ) → i < n → 0 < s % 32 → s / 32 * 32 + at lab (at list i) < 16384
-  pub turned : (t : ℕ) → 32 ≤ t → t + 1 ≡ s → CellsOf list n first ins (net .from) (net .count) (net .start) t cells
+  pub turned : (t : ℕ) → 32 ≤ t → t + 1 ≡ s → SlotsOf list n first ins (net .from) (net .count) (net .start) t slots
   pub held : Held net lab s ring
 
 module _ (net : Netlist) (lab ins first truth index : List ℕ) (clocks : ℕ) where
-  pub following-start : Ready net lab ins first truth index → clocks ≤ 16384 → (list cells ring : List ℕ) → length list ≡ 512 → length cells ≡ 1024 → length ring ≡ 32770 → Empty ring
-      → Ordered (net .nodes) (net .edges) (net .from) (net .to) (net .count) list → Following net lab ins first truth index clocks 0 list (net .nodes) cells ring
-  following-start ready h list cells ring p q r e o = record {
+  pub following-start : Ready net lab ins first truth index → clocks ≤ 16384 → (list slots ring : List ℕ) → length list ≡ 512 → length slots ≡ 1024 → length ring ≡ 32770 → NothingYet ring
+      → Ordered (net .nodes) (net .edges) (net .from) (net .to) (net .count) list → Following net lab ins first truth index clocks 0 list (net .nodes) slots ring
+  following-start ready h list slots ring p q r e o = record {
     ready = ready;
     clocks-low = h;
     low = omega arith;
     list-rows = p;
-    cell-rows = q;
+    slot-rows = q;
     listed = listed-start net lab list o;
     near = λ i l z. absurd (let y : ⊥ = omega arith in y);
     turned = λ t l z. absurd (let y : ⊥ = omega arith in y);
     held = held-start net lab ring r e;
   }
 
-  module _ (s : ℕ) (list : List ℕ) (n : ℕ) (cells ring : List ℕ) (w : Following net lab ins first truth index clocks s list n cells ring) (h : s < clocks) where
+  module _ (s : ℕ) (list : List ℕ) (n : ℕ) (slots ring : List ℕ) (w : Following net lab ins first truth index clocks s list n slots ring) (h : s < clocks) where
     pub following-list : (s < 16384) × (n ≤ length list) × ((i : ℕ) → i < n → at list i < length lab)
     following-list = (
       omega (arith, w .clocks-low),
@@ -69,7 +71,7 @@ module _ (net : Netlist) (lab ins first truth index : List ℕ) (clocks : ℕ) w
       λ i l. omega (arith, w .listed .nodes-only i l, w .ready .labelled .rows),
     )
 
-    module _ (new : List ℕ) (r : ℕ) (kept : ((0 < s % 32) × (r ≡ n) × (new ≡ list)) ⊎ Kept (AskedAt lab s) list n new r) (size : length new ≡ length list) where
+    module _ (new : List ℕ) (r : ℕ) (kept : ((0 < s % 32) × (r ≡ n) × (new ≡ list)) ⊎ Filtered (AskedAt lab s) list n new r) (size : length new ≡ length list) where
       fresh : Refreshed net lab s list n new r
       fresh = refreshed net lab s list n new r (w .listed) (w .near) kept
 
@@ -85,72 +87,72 @@ module _ (net : Netlist) (lab ins first truth index : List ℕ) (clocks : ℕ) w
       in-list : r ≤ length new
       in-list = omega (arith, size, w .list-rows, fresh .listed .few, few-nodes)
 
-      cellable : CellableOf new r first ins (net .from) (net .count) (net .start) (net .edges)
-      cellable i l =
+      slotable : SlotableOf new r first ins (net .from) (net .count) (net .start) (net .edges)
+      slotable i l =
           let en = w .ready .entering in
           let k = w .ready .net-rows in (
             omega (arith, in-nodes i l, few-nodes, w .ready .rows .1),
             record {
               up = en .rising (at new i) (in-nodes i l);
-              in-cells = en .within (at new i) (in-nodes i l);
+              in-slots = en .within (at new i) (in-nodes i l);
               in-ins = omega (arith, en .within (at new i) (in-nodes i l), few-edges, w .ready .rows .0);
               edges = λ j a b.
                   let e : at ins j < net .edges = en .edge j (omega (arith, en .within (at new i) (in-nodes i l))) in
                   record {
                     rows = (omega (arith, few-edges, k .0), omega (arith, few-edges, k .1), omega (arith, few-edges, k .2));
                     source = omega (arith, from-node net lab (w .ready .labelled) (at ins j) e, few-nodes);
-                    width = edge-width net (w .ready .steppable .fit) (at ins j) e;
+                    width = count-low net (w .ready .steppable .fit) (at ins j) e;
                   };
             },
           )
 
-      pub following-turns : ((r ≤ length new) × (net .edges ≤ length cells))
-          × CellableOf new r first ins (net .from) (net .count) (net .start) (net .edges)
-          × ((t : ℕ) → 32 ≤ t → t + 1 ≡ s → CellsOf new r first ins (net .from) (net .count) (net .start) t cells)
+      pub following-turns : ((r ≤ length new) × (net .edges ≤ length slots))
+          × SlotableOf new r first ins (net .from) (net .count) (net .start) (net .edges)
+          × ((t : ℕ) → 32 ≤ t → t + 1 ≡ s → SlotsOf new r first ins (net .from) (net .count) (net .start) t slots)
       following-turns = (
-        (in-list, omega (arith, few-edges, w .cell-rows)),
-        cellable,
+        (in-list, omega (arith, few-edges, w .slot-rows)),
+        slotable,
         λ t a q i l.
             let f = fresh .from i l in
-            subst (λ v. Cells ins (net .from) (net .count) (net .start) t (at first v) (at first (suc v)) cells) (f .2) (w .turned t a q (f .0) (f .1)),
+            subst (λ v. Slots ins (net .from) (net .count) (net .start) t (at first v) (at first (suc v)) slots) (f .2) (w .turned t a q (f .0) (f .1)),
       )
 
       pub following-truths : Truths (net .kind) new truth first r
       following-truths i l = w .ready .truths (at new i) (in-nodes i l)
 
-      module _ (cells′ : List ℕ) (cell-rows : length cells′ ≡ length cells) (right : CellsOf new r first ins (net .from) (net .count) (net .start) s cells′) where
-        pub following-evaluable : Evaluable new truth index first cells′ r (row s) ring
+      module _ (slots′ : List ℕ) (slot-rows : length slots′ ≡ length slots) (right : SlotsOf new r first ins (net .from) (net .count) (net .start) s slots′) where
+        pub following-evaluable : Evaluable new truth index first slots′ r (row s) ring
         following-evaluable = record {
           table = w .ready .table;
           in-node = in-list;
           placed = λ i l.
               let en = w .ready .entering in
               let v = in-nodes i l in
-              let c = cellable i l .1 in
+              let c = slotable i l .1 in
               record {
                 in-truth = omega (arith, v, few-nodes, w .ready .rows .2);
-                in-first = cellable i l .0;
+                in-first = slotable i l .0;
                 in-size = omega (arith, v, few-nodes, w .held .size);
                 up = c .up;
-                in-list = omega (arith, c .in-cells, few-edges, w .cell-rows);
+                in-list = omega (arith, c .in-slots, few-edges, w .slot-rows);
                 narrow = w .ready .truths (at new i) v .narrow;
                 signals = λ j a b.
                     let e = at ins j in
-                    omega (arith, right i l j a b, cell-in (at (net .from) e) (at (net .count) e) (at (net .start) e) s (c .edges j a b .source), w .held .size);
+                    omega (arith, right i l j a b, slot-in (at (net .from) e) (at (net .count) e) (at (net .start) e) s (c .edges j a b .source), w .held .size);
               };
           bits = w .held .bits;
         }
 
-        pub following-next : (ring′ : List ℕ) → ring′ ≡ evaluated (net .kind) new first cells′ (row s) r ring → Following net lab ins first truth index clocks (s + 1) new r cells′ ring′
+        pub following-next : (ring′ : List ℕ) → ring′ ≡ evaluated (net .kind) new first slots′ (row s) r ring → Following net lab ins first truth index clocks (s + 1) new r slots′ ring′
         following-next ring′ q = record {
           ready = w .ready;
           clocks-low = w .clocks-low;
           low = omega arith;
           list-rows = omega (arith, size, w .list-rows);
-          cell-rows = omega (arith, cell-rows, w .cell-rows);
+          slot-rows = omega (arith, slot-rows, w .slot-rows);
           listed = listed-next net lab s new r (fresh .listed);
           near = λ i l z. omega (arith, fresh .near i l);
-          turned = λ t a z. subst (λ x. CellsOf new r first ins (net .from) (net .count) (net .start) x cells′) (let y : s ≡ t = omega arith in y) right;
-          held = held-next net lab (w .ready .steppable) (w .ready .labelled) ins first (w .ready .entering) s new r (fresh .listed) (fresh .near) cells′
-              (omega (arith, few-edges, w .ready .rows .0)) (omega (arith, few-edges, cell-rows, w .cell-rows)) right ring ring′ (w .held) q;
+          turned = λ t a z. subst (λ x. SlotsOf new r first ins (net .from) (net .count) (net .start) x slots′) (let y : s ≡ t = omega arith in y) right;
+          held = held-next net lab (w .ready .steppable) (w .ready .labelled) ins first (w .ready .entering) s new r (fresh .listed) (fresh .near) slots′
+              (omega (arith, few-edges, w .ready .rows .0)) (omega (arith, few-edges, slot-rows, w .slot-rows)) right ring ring′ (w .held) q;
         }

@@ -1,7 +1,7 @@
 -- New start values.
 pub mod Quiet
 -- Where an edge's value stands in the ring; the edges by the node that they enter.
-pub mod Cells
+pub mod Slots
 pub mod Entering
 -- The members of a list that are kept; the nodes that are evaluated in a clock.
 pub mod Kept

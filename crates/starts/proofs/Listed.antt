@@ -10,8 +10,9 @@ use mathlib.Core.Logic.{_⊎_, inl, inr}
 use mathlib.Core.List.{List}
 use Rattle.graph.specs.Columns.{at}
 use Rattle.graph.specs.inner.Sort.{Stands, Ordered}
+use Rattle.graph.specs.inner.Lists.{Filtered}
 use Rattle.netlist.specs.declared.Netlist.{Netlist}
-use Rattle.starts.specs.inner.Ring.{AskedAt, Kept}
+use Rattle.starts.specs.inner.Ring.{AskedAt}
 
 pub record Listed (net : Netlist) (lab : List ℕ) (s : ℕ) (list : List ℕ) (n : ℕ) : Type 0 where
   pub few : n ≤ net .nodes
@@ -44,7 +45,7 @@ pub record Refreshed (net : Netlist) (lab : List ℕ) (s : ℕ) (list : List ℕ
 
 pub refreshed : (net : Netlist) (lab : List ℕ) (s : ℕ) (list : List ℕ) (n : ℕ) (new : List ℕ) (r : ℕ) → Listed net lab s list n
     → ((i : ℕ) → i < n → 0 < s % 32 → s / 32 * 32 + at lab (at list i) < 16384)
-    → ((0 < s % 32) × (r ≡ n) × (new ≡ list)) ⊎ Kept (AskedAt lab s) list n new r → Refreshed net lab s list n new r
+    → ((0 < s % 32) × (r ≡ n) × (new ≡ list)) ⊎ Filtered (AskedAt lab s) list n new r → Refreshed net lab s list n new r
 refreshed net lab s list n new r w near (inl c) =
     rw (c .1, c .2) (record { listed = w; near = λ i h. near i h (c .0); from = λ i h. (i, h, refl) })
 refreshed net lab s list n new r w near (inr k) = record {

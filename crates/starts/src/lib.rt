@@ -3,3 +3,6 @@ mod ring;
 mod words;
 
 pub use words::moved;
+
+// A label is this and the lag.
+const BIAS: usize = lags::BIAS as usize;

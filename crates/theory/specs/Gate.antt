@@ -1,5 +1,8 @@
 -- The gate kinds of document 01: "00 input; 01 output; 02 buffer and 03 inverter; 04 AND, 05 OR, 06 XOR, 07 NAND, 08 NOR, 09 XNOR".
 -- The other definitions take any gates; the cards take these.
+--   ones l              how many of the values are 1
+--   gateBy k n c        the value of a gate of kind k with n inputs of which c are 1
+--   gate k l            the value of a gate of kind k that sees the values l
 use mathlib.Core.List.{List, [], _∷_}
 use Prim.Native.Nat.{ℕ, _+_, _-_, _%_, min}
 use lib.ListN.{length, getD}

@@ -5,9 +5,8 @@
 --   Owed, Dues          the first dues are those of the values that are to be carried: nothing else, and all of them
 --   dueAt               the same due, by the numbers that it is made of
 --   Celled              each node has a cell for each clock below its lag
---   EachEdge            a list of edges that has each of them
---   DuesTo              runs of clocks: the dues of all clocks below `low`, and of the first n edges of a list those below `high`, in so many rows
---   FewRows             how many rows there are when all clocks below `low` are put, in runs that end at 1, 3, 7, 15 and 24
+--   DuesTo              runs of clocks: the dues of all clocks below `low`, and of the first n edges of a list those below `high`, in so many rows, none of them empty
+--   FewRows             how many rows there are at most when all clocks below `low` are put, in runs that end at 1, 3, 7, 15 and 24
 use mathlib.Core.Path.{_≡_}
 use mathlib.Core.List.{List}
 use Prim.Native.Nat.{ℕ, suc, _+_, _*_, _-_, _<_, _≤_}
@@ -48,13 +47,9 @@ pub record Celled (lag : ℕ → ℕ) (nodes cells : ℕ) (id : List ℕ) : Type
   pub low : (v : ℕ) → v < nodes → lag v ≤ 24
   pub inside : (v t : ℕ) → v < nodes → t < lag v → cellAt id v t < cells
 
-pub record EachEdge (along : List ℕ) (edges : ℕ) : Type 0 where
-  pub edges-only : (p : ℕ) → p < edges → at along p < edges
-  pub every-edge : (e : ℕ) → e < edges → Stands along edges e
-
 pub record DuesTo (net : Netlist) (lag : ℕ → ℕ) (id along : List ℕ) (low high n rows : ℕ) (due begin : List ℕ) (total : ℕ) : Type 0 where
   pub none : at begin 0 ≡ 0
-  pub rising : (e : ℕ) → e < rows → (at begin e ≤ at begin (suc e)) × (at begin (suc e) ≤ at begin e + 24)
+  pub rising : (e : ℕ) → e < rows → (at begin e < at begin (suc e)) × (at begin (suc e) ≤ at begin e + 24)
   pub last : at begin rows ≡ total
   pub few : total ≤ 1024 * low + n * (high - low)
   pub sound : (x : ℕ) → x < total → Owed net lag (cellAt id) (at due x)

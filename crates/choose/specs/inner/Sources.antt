@@ -1,7 +1,6 @@
 -- The operands of the cells, and their kinds.
 --   sourceAt            what an edge shows at clock t: a chosen value, or a cell
 --   SourceRows          the rows that it is read from are there
---   Appended            f of each number from lo up to hi, put from `start` on
 --   widthAt             how many operands a cell has
 --   OperandRows         a cell's operands can be read
 --   Operands            the operands of the first cells
@@ -24,11 +23,6 @@ pub record SourceRows (from counts base id : List ℕ) (t e : ℕ) : Type 0 wher
   pub low : at base e ≤ 32768
   pub node : at from e < 512
   pub cell : at counts e ≤ t → at id (at from e * 32 + (t - at counts e)) < 12288
-
-pub record Appended (f : ℕ → ℕ) (old new : List ℕ) (lo hi start : ℕ) : Type 0 where
-  pub rows : length new ≡ length old
-  pub kept : (j : ℕ) → j < start → at new j ≡ at old j
-  pub added : (k : ℕ) → lo + k < hi → at new (start + k) ≡ f (lo + k)
 
 abbrev pub widthAt : List ℕ → List ℕ → ℕ → ℕ
 widthAt begin code i = at begin (at code i / 32 + 1) - at begin (at code i / 32)

@@ -17,7 +17,7 @@ use Rattle.graph.specs.Columns.{at}
 use Rattle.graph.specs.inner.Sort.{Sorts}
 use Rattle.netlist.specs.declared.Netlist.{Netlist}
 use Rattle.netlist.specs.Net.{graphOf, regsOf}
-use Rattle.search.specs.inner.Program.{Program, Owes, GivesDues}
+use Rattle.search.specs.inner.Program.{programOf, RightProgram, Owes, GivesDues}
 use Rattle.choose.specs.inner.Sources.{widthAt, OperandRows, Operands}
 
 -- The edges by the node that they enter.
@@ -46,6 +46,6 @@ Chooses net r true c = Best gate (graphOf net) (regsOf net) r c
 Chooses net r false c = NoStart gate (graphOf net) (regsOf net) r
 
 pub record Standing (net : Netlist) (r : ℕ → ℤ) (k cells rows : ℕ) (kind first operand due begin : List ℕ) : Type 0 where
-  pub right : Program cells k kind first operand
+  pub right : RightProgram cells k (programOf kind first operand)
   pub owes : Owes cells due begin rows
-  pub holds : (c : ℕ) → GivesDues k kind first operand due (at begin rows) c ↔ Carried gate (graphOf net) (regsOf net) r (choiceOf (graphOf net) (regsOf net .count) r c)
+  pub holds : (c : ℕ) → GivesDues k (programOf kind first operand) due (at begin rows) c ↔ Carried gate (graphOf net) (regsOf net) r (choiceOf (graphOf net) (regsOf net .count) r c)

@@ -7,7 +7,6 @@ use mathlib.Core.List.{List, _++_}
 use Prim.Native.Nat.{ℕ, _+_, _*_, _-_}
 use lib.Dec.{ltb, leb}
 use lib.ListN.{length, replicate}
-use lib.Seq.{sets}
 use Rattle.frame.specs.declared.Frame.{Frame}
 use Rattle.frame.specs.Frame.{digitOf, Line, bad, line, frameAt}
 

@@ -7,7 +7,7 @@ use mathlib.Core.Bool.{true, false}
 use Prim.Native.Nat.{ℕ, _<_}
 use lib.IntN.{ℤ, pos, _-ℤ_}
 use Rattle.theory.specs.Graph.{Pin}
-use Rattle.theory.specs.Walk.{FromInput}
+use Rattle.theory.specs.Walk.{FromInput, Loop}
 use Rattle.theory.specs.Lag.{Least}
 use Rattle.theory.specs.Retimer.{NoRetiming}
 use Rattle.graph.specs.Columns.{at}
@@ -19,9 +19,10 @@ use Rattle.lags.specs.declared.Labels.{Labels}
 unfoldable pub lagOf : ℕ → ℤ
 lagOf l = pos l -ℤ pos 16384
 
--- The lines keep their rules, and an input reaches every gate: half of rule 7. (Nothing here needs rule 5 or 6.)
+-- The lines keep their rules, no loop is without a register, and an input reaches every gate: half of rule 7. (Nothing here needs rule 5.)
 pub record Sure (net : Netlist) : Type 0 where
   pub fit : Fit net
+  pub no-loop : ¬ Loop (graphOf net) (regsOf net .count)
   pub fed : (v : ℕ) → v < net .nodes → ¬ Pin (graphOf net) v → FromInput (graphOf net) v
 
 -- Whether or not there is a retiming, each label is such that its lag fits 16 bits.

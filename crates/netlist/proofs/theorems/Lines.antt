@@ -9,7 +9,7 @@ use mathlib.Core.Path.{_≡_, refl, sym, ap, _∙_, subst, subst₂}
 use mathlib.Core.List.{List, [], _∷_, _++_, append-nil}
 use Rattle.frame.specs.Frame.{numberAt}
 use Rattle.netlist.specs.declared.Netlist.{Netlist}
-use Rattle.netlist.specs.Answer.{Said, atLine as at-line}
+use Rattle.netlist.specs.Answer.{Said, atLine}
 use Rattle.netlist.specs.Read.{Lines, fault, lines, nothingMore, linesOf, nodesFrom, edgesFrom}
 use Rattle.netlist.specs.Write.{textOf}
 use Rattle.netlist.specs.Theorems.{FitTo, Fit, Clean, toNode, toEdge, FaultAt, head-frame, head-range, node-frame, node-rule, edge-frame, edge-rule, surplus, LinesFact, FaultFact, FaultPlace}
@@ -57,7 +57,7 @@ lines-fact t net = (account-right (account t), λ h. ap linesOf (h .2) ∙ text-
 
 -- ── A fault ─────────────────────────────────────────────────────────────────────────────────
 
-account-wrong : {t : List ℕ} {x : Lines} {q n : ℕ} → Account t x → x ≡ fault (at-line q n) → FaultAt t q n
+account-wrong : {t : List ℕ} {x : Lines} {q n : ℕ} → Account t x → x ≡ fault (atLine q n) → FaultAt t q n
 account-wrong (right n f c p) q = clash (cc)
 account-wrong {t} {q = q} {n = n} (wrong q′ n′ f) p = let a : q′ ≡ q = cc in let b : n′ ≡ n = cc in subst₂ (FaultAt t) a b f
 
@@ -70,11 +70,11 @@ module _ (net : Netlist) (rest : List ℕ) where
       → linesOf (toEdge net e ++ rest) ≡ edgesFrom (suc (net .edges - suc e)) e (net .nodes + e + 2) rest (cut net (net .nodes) e)
   at-edge e f l = run-edges net e (suc (net .edges - suc e)) (omega arith) f rest
 
-ends-more : (n : ℕ) (net : Netlist) (rest : List ℕ) → ¬ (rest ≡ []) → nothingMore rest n net ≡ fault (at-line 1 n)
+ends-more : (n : ℕ) (net : Netlist) (rest : List ℕ) → ¬ (rest ≡ []) → nothingMore rest n net ≡ fault (atLine 1 n)
 ends-more n net [] h = absurd (h refl)
 ends-more n net (c ∷ l) h = refl
 
-pub fault-lines : {t : List ℕ} {q n : ℕ} → FaultAt t q n → linesOf t ≡ fault (at-line q n)
+pub fault-lines : {t : List ℕ} {q n : ℕ} → FaultAt t q n → linesOf t ≡ fault (atLine q n)
 unfolding linesOf nodesFrom edgesFrom textOf
 fault-lines (head-frame p) = rw p
 fault-lines (head-range bs rest p h) = rw (p, h)
@@ -90,7 +90,7 @@ fault-lines (surplus net rest f q p) = ap linesOf q ∙ run-edges net (net .edge
 pub fault-fact : FaultFact
 fault-fact t q n = (account-wrong (account t), fault-lines)
 
-account-place : {t : List ℕ} {x : Lines} {s : Said} → Account t x → x ≡ fault s → (q : ℕ) × (n : ℕ) × (s ≡ at-line q n) × FaultAt t q n
+account-place : {t : List ℕ} {x : Lines} {s : Said} → Account t x → x ≡ fault s → (q : ℕ) × (n : ℕ) × (s ≡ atLine q n) × FaultAt t q n
 account-place (right n f c p) e = clash (cc)
 account-place (wrong q n f) e = (q, n, cc, f)
 

@@ -12,7 +12,7 @@ use lib.Seq.{take-all, length-take-le}
 use Rattle.frame.specs.Frame.{Line, bad, line, onLine, frameAt, lineOf, numberAt}
 use Rattle.frame.proofs.Laws.{behind, length-line, frame-rest, frame-longer}
 use Rattle.netlist.specs.declared.Netlist.{Netlist}
-use Rattle.netlist.specs.Answer.{Said, atLine as at-line}
+use Rattle.netlist.specs.Answer.{Said, atLine}
 use Rattle.netlist.specs.Net.{withHead, withNode, withEdge, graphOf}
 use Rattle.netlist.specs.Read.{Lines, fault, edgesFrom, nodesFrom, linesOf, Reads, faulty, judged}
 use Rattle.rules.specs.Rules.{headFits, nodeFits, edgeFits}
@@ -41,20 +41,20 @@ unfolding edgesFrom
 edges-longer zero e n [] z net h = absurd (omega arith)
 edges-longer zero e n (c ∷ l) z net h = refl
 edges-longer (suc m) e n l z net h =
-    turn 3 9 l z _ (fault (at-line 4 n)) (λ bs. edgeFits (net .nodes) (graphOf net .kind) (numberAt 0 2 bs) (numberAt 2 2 bs) (numberAt 4 1 bs) (numberAt 5 4 bs)) _ (omega arith)
+    turn 3 9 l z _ (fault (atLine 4 n)) (λ bs. edgeFits (net .nodes) (graphOf net .kind) (numberAt 0 2 bs) (numberAt 2 2 bs) (numberAt 4 1 bs) (numberAt 5 4 bs)) _ (omega arith)
     (λ bs rest t q. edges-longer m (suc e) (suc n) rest z (withEdge net e (numberAt 0 2 bs) (numberAt 2 2 bs) (numberAt 4 1 bs) (numberAt 5 4 bs)) (omega arith))
 
 nodes-longer : (m i n : ℕ) (l z : List ℕ) (net : Netlist) → 7 * m + 21 * net .edges < length l → nodesFrom m i n (l ++ z) net ≡ nodesFrom m i n l net
 unfolding nodesFrom
 nodes-longer zero i n l z net h = edges-longer (net .edges) 0 n l z net (omega arith)
 nodes-longer (suc m) i n l z net h =
-    turn 2 2 l z _ (fault (at-line 3 n)) (λ bs. nodeFits (numberAt 0 1 bs) (numberAt 1 1 bs)) _ (omega arith)
+    turn 2 2 l z _ (fault (atLine 3 n)) (λ bs. nodeFits (numberAt 0 1 bs) (numberAt 1 1 bs)) _ (omega arith)
     (λ bs rest t q. nodes-longer m (suc i) (suc n) rest z (withNode net i (numberAt 0 1 bs) (numberAt 1 1 bs)) (omega arith))
 
 lines-longer : (t z : List ℕ) → 25105 < length t → linesOf (t ++ z) ≡ linesOf t
 unfolding linesOf withHead
 lines-longer t z h =
-    turn 1 7 t z _ (fault (at-line 2 1)) (λ bs. headFits (numberAt 0 2 bs) (numberAt 2 1 bs) (numberAt 3 2 bs) (numberAt 5 2 bs)) _ (omega arith)
+    turn 1 7 t z _ (fault (atLine 2 1)) (λ bs. headFits (numberAt 0 2 bs) (numberAt 2 1 bs) (numberAt 3 2 bs) (numberAt 5 2 bs)) _ (omega arith)
     (λ bs rest b q.
     let f = head-fits (numberAt 0 2 bs) (numberAt 2 1 bs) (numberAt 3 2 bs) (numberAt 5 2 bs) b in
     nodes-longer (numberAt 3 2 bs) 0 2 rest z (withHead (numberAt 0 2 bs) (numberAt 2 1 bs) (numberAt 3 2 bs) (numberAt 5 2 bs)) (omega arith))

@@ -13,11 +13,11 @@ use mathlib.Core.List.{_++_, append-assoc}
 use lib.ListN.{getD}
 use Rattle.frame.specs.Frame.{frameAt}
 use Rattle.netlist.specs.declared.Netlist.{Netlist}
-use Rattle.netlist.specs.Answer.{Said, atLine as at-line}
+use Rattle.netlist.specs.Answer.{Said, atLine}
 use Rattle.netlist.specs.Read.{fault, lines, linesOf, All, Lowest, Judged, kept, Reads, judged}
 use Rattle.netlist.specs.Write.{headLine, nodeLine, edgeLine, joined, textOf}
-use Rattle.netlist.specs.Theorems.{FitTo, Fit, FaultAt, head-range, node-rule, edge-rule, Same, Typed, RecordFault, bad-head, bad-node, bad-edge, RecordFaults, RecordFact, RecordJudged}
-use Rattle.netlist.proofs.Fits.{clash, headTest, nodeTest, edgeTest}
+use Rattle.netlist.specs.Theorems.{headTest, nodeTest, edgeTest, FitTo, Fit, FaultAt, head-range, node-rule, edge-rule, Same, Typed, RecordFault, bad-head, bad-node, bad-edge, RecordFaults, RecordFact, RecordJudged}
+use Rattle.netlist.proofs.Fits.{clash}
 use Rattle.netlist.proofs.Rows.{column-in, joined-split}
 use Rattle.netlist.proofs.Fields.{headBytes, edgeBytes, four-numbers, four-frame, nodeBytes, node-numbers, node-frame}
 use Rattle.netlist.proofs.Run.{cut, fit-rows, fit-wired}
@@ -130,12 +130,12 @@ cut-same net f =
     }
 
 module _ (net : Netlist) (t : Typed net) where
-  broken : {q n : ℕ} → RecordFault net q n → linesOf (textOf net) ≡ fault (at-line q n)
+  broken : {q n : ℕ} → RecordFault net q n → linesOf (textOf net) ≡ fault (atLine q n)
   broken (bad-head h) = fault-lines (head-breaks net (t .head .0) (t .head .1) (t .head .2) (t .head .3) h)
   broken (bad-node v f l h) = fault-lines (node-breaks net t v f l h)
   broken (bad-edge e f l h) = fault-lines (edge-breaks net t e f l h)
 
-  told : Outcome net → {q n : ℕ} → linesOf (textOf net) ≡ fault (at-line q n) → RecordFault net q n
+  told : Outcome net → {q n : ℕ} → linesOf (textOf net) ≡ fault (atLine q n) → RecordFault net q n
   told (fits f) p = let l = text-lines net f in clash (cc)
   told (breaks q′ n′ b) {q} {n} p = let l = broken b in let x : q′ ≡ q = cc in let y : n′ ≡ n = cc in subst₂ (RecordFault net) x y b
 

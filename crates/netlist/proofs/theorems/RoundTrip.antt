@@ -4,22 +4,21 @@
 --   round-trip-text, round-trip-netlist, record-rows-unread
 use Prim.Native.Nat.{ℕ, _≤_}
 use mathlib.Core.Path.{_≡_, refl, sym, ap, ap₂, _∙_, subst, subst₂}
-use mathlib.Core.Bool.{Bool, true, false, cond}
 use mathlib.Core.List.{_++_}
-use lib.Dec.{ltb}
 use lib.ListN.{length, take, drop}
 use lib.Seq.{take-append-seam}
-use borrow.Author.Tests.{le-ltb, ltb-false}
 use Rattle.netlist.specs.declared.Netlist.{Netlist}
-use Rattle.netlist.specs.Answer.{Said, value, refused, whole, andThen, needs, holds}
-use Rattle.netlist.specs.Read.{Judged, five, six, seven, sound, Reads}
+use Rattle.netlist.specs.Answer.{Said, value, holds}
+use Rattle.netlist.specs.Order.{_orElse_, past, Stops, Needs}
+use Rattle.netlist.specs.Read.{Reads}
 use Rattle.netlist.specs.Write.{headLine, nodeLine, edgeLine, joined, textOf}
 use Rattle.netlist.specs.Theorems.{Clean, Same, RoundTripText, RoundTripNetlist, RecordRowsUnread}
-use Rattle.netlist.proofs.Fits.{clash}
 use Rattle.netlist.proofs.Rows.{joined-same}
+use Rattle.netlist.proofs.Order.{else-one, stops-one, stops-value, needs-one, needs-room, needs-value}
 use Rattle.netlist.proofs.Account.{nodeOf, edgeOf}
 use Rattle.netlist.proofs.theorems.One.{one-reading}
 use Rattle.netlist.proofs.theorems.Lines.{lines-fact}
+use Rattle.netlist.proofs.theorems.Refusals.{judged-zero}
 use Rattle.netlist.proofs.theorems.Record.{record-fact}
 use Rattle.netlist.proofs.theorems.Sound.{reads-value}
 
@@ -30,25 +29,15 @@ pub round-trip-text : RoundTripText
 round-trip-text t net old s new r room w =
     let e : t ≡ textOf net = lines-fact t net .0 (reads-value r .0) .2 in
     let c : w .checked ≡ value 0 = one-reading t (w .checked) (value 0) (w .same) net (subst (λ x. Reads x (w .checked) (w .same)) (sym e) (w .check)) r .0 in
-    let a : s ≡ value (length t) = w .answer ∙ rw (c, ← e, le-ltb (length old) (length t) room) in
+    let a : s ≡ value (length t) =
+    else-one (stops-one (w .checked)) (needs-one _ _) s _ (w .answer)
+    (rw (c, ← e) (past (λ x g. g) (needs-room room refl))) in
     (a, w .buffer ∙ rw (a, ← e))
 
 -- ── Written and read ────────────────────────────────────────────────────────────────────────
 
-pub all-written : (c : Said) (n m k : ℕ) → value k ≡ andThen c (needs n m) → (i : ℕ) × (c ≡ value i) × (k ≡ n) × (n ≤ m)
-all-written (value i) n m k q = let r = go (ltb m n) refl q in (i, refl, r .0, r .1)
-  where
-    go : (b : Bool) → ltb m n ≡ b → value k ≡ cond b (whole 12) (value n) → (k ≡ n) × (n ≤ m)
-    go true e p = clash (cc)
-    go false e p = (cc, ltb-false m n e)
-all-written (refused a b c) n m k q = clash (cc)
-
--- Reading that refuses nothing says 0.
-pub judged-zero : {net : Netlist} {i : ℕ} → Judged net (value i) → i ≡ 0
-judged-zero (five v l q) = clash (cc)
-judged-zero (six a o q) = clash (cc)
-judged-zero (seven a o v l q) = clash (cc)
-judged-zero (sound a o j q) = cc
+pub all-written : (c : Said) {n m k : ℕ} → (Stops c orElse Needs n m) (value k) → (i : ℕ) × (c ≡ value i) × (k ≡ n) × (n ≤ m)
+all-written c r = let a = stops-value c r in let b = needs-value (a .2) in (a .0, a .1, b .0, b .1)
 
 -- The bytes written are the record's text. It was checked by reading it; what that read is the same netlist (`record-fact`), and where the record's other rows
 -- are 0 it is the record, as that text then reads as it (`lines-fact`).
@@ -56,10 +45,10 @@ pub round-trip-netlist : RoundTripNetlist
 round-trip-netlist net old new n ty w =
     let text = textOf net in
     let back = w .same in
-    let a = all-written (w .checked) (length text) (length old) n (w .answer) in
+    let a = all-written (w .checked) (w .answer) in
     let r = subst (λ s. Reads text s back) (a .1) (w .check) in
     let k = reads-value r in
-    let z : a .0 ≡ 0 = judged-zero (k .1) in
+    let z : a .0 ≡ 0 = judged-zero back (k .1) in
     let e : text ≡ take n new = sym (take-append-seam text (drop (length text) old)) ∙ ap₂ take (sym (a .2)) (sym (w .buffer)) in
     let f = record-fact net ty in
     let again : Clean net → back ≡ net = λ c. let p = k .0 in let q = lines-fact text net .1 (f .1 .0 (back, k .0), c, refl) in cc in
@@ -83,6 +72,6 @@ record-rows-unread net net′ s old a new w =
       checked = w .checked;
       same = w .same;
       check = subst (λ x. Reads x (w .checked) (w .same)) e (w .check);
-      answer = w .answer ∙ ap (λ x. andThen (w .checked) (needs (length x) (length old))) e;
+      answer = subst (λ x. (Stops (w .checked) orElse Needs (length x) (length old)) a) e (w .answer);
       buffer = w .buffer ∙ ap (λ x. holds a x old) e;
     }

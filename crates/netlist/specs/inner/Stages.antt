@@ -9,8 +9,9 @@ use Rattle.netlist.specs.declared.Netlist.{Netlist}
 use Rattle.netlist.specs.declared.Answer.{Answer}
 use Rattle.netlist.specs.declared.Answer.the-variants.{Done, Refused}
 use Rattle.netlist.specs.Answer.{Said, value, atNode, says}
+use Rattle.netlist.specs.Order.{_orElse_, GivenAt, Otherwise}
 use Rattle.netlist.specs.Net.{emptyNet}
-use Rattle.netlist.specs.Read.{Lines, fault, lines, linesOf, All, Lowest}
+use Rattle.netlist.specs.Read.{Lines, fault, lines, linesOf, Lowest}
 
 abbrev pub Goes : Answer → Lines → Lines → Netlist → Type 0
 Goes (Done n) whole rest net = whole ≡ rest
@@ -19,6 +20,5 @@ Goes (Refused q p) whole rest net = (whole ≡ fault (says (Refused q p))) × (n
 abbrev pub Lined : List ℕ → Answer → Netlist → Type 0
 Lined t a net = Goes a (linesOf t) (lines net) net
 
-pub data Sought (Rule : ℕ → Type 0) (n q : ℕ) (s : Said) : Type 0 where
-  none : All Rule n → s ≡ value 0 → Sought Rule n q s
-  found : (v : ℕ) → Lowest Rule n v → s ≡ atNode q v → Sought Rule n q s
+abbrev pub Sought : (ℕ → Type 0) → ℕ → ℕ → Said → Type 0
+Sought Rule n q = GivenAt (Lowest Rule n) (atNode q) orElse Otherwise (value 0)

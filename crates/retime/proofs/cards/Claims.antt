@@ -5,14 +5,13 @@
 --   card-claim
 use Prim.Native.Nat.{ℕ, _*_, _%_, _<_, _≤_}
 use native.Mathlib.Omega.{arith}
-use mathlib.Core.Path.{_≡_, refl, sym, ap, _∙_, subst}
+use mathlib.Core.Path.{_≡_, sym, ap, _∙_, subst}
 use mathlib.Core.Bool.{Bool, true, _&&_}
 use mathlib.Core.List.{List, [], _∷_, _++_}
 use lib.Dec.{T, leb, eqb, leb→le, eqb→eq}
 use lib.IntN.{ℤ, pos}
 use lib.ListN.{length, drop}
 use lib.Seq.{ext-getD}
-use borrow.Author.Tests.{le-ltb}
 use Rattle.theory.specs.Gate.{gate}
 use Rattle.theory.specs.Lag.{newCount}
 use Rattle.theory.specs.Move.{chosenIn}
@@ -29,13 +28,16 @@ use Rattle.netlist.specs.Read.{Reads}
 use Rattle.netlist.specs.Write.{textOf}
 use Rattle.simulate.specs.Clock.{inputs, outputs}
 use Rattle.simulate.specs.Step.{onlyBits}
-use Rattle.simulate.specs.Run.{clocksFrom, clocks, runSays}
+use Rattle.simulate.specs.Run.{clocksFrom, clocks, runFits}
+use Rattle.simulate.proofs.Says.{Row, row-goes}
 use Rattle.moves.specs.Moved.{withRegs, movedNet}
-use Rattle.retime.specs.Retime.{NarrowAt, ManyAt, lagTable, wide, startless, moved, eight, found}
+use Rattle.retime.specs.Retime.{NarrowAt, ManyAt, lagTable, MovedBy}
 use Rattle.retime.specs.Demand.{tableLag}
 use Rattle.retime.specs.Card.{ClaimOf, Claim}
-use Rattle.moves.proofs.Rows.{rows-length, rows-in}
+use Rattle.netlist.proofs.Rows.{rows-length, rows-in}
 use Rattle.moves.proofs.Moved.{with-same}
+use Rattle.retime.proofs.Order.{wide, startless, moved}
+use Rattle.retime.proofs.Call.{of-left, none, from-9, said}
 use Rattle.retime.proofs.cards.Net.{netOf, graph-is, regs-is, delay-is, newRegs, resultOf, derive}
 use Rattle.retime.proofs.cards.Reads.{is-true, reads?, reads-yes}
 
@@ -85,9 +87,9 @@ module _ (net : Netlist) where
       with-same net (retimed gate (graphOf net) (regsOf net) r c) (newRegs counts words)
       (record { counts = λ e h. sym (a e h); starts = λ e t h l. sym (b e h t (omega (arith, a e h))) })
 
-  run-says : (vectors : List ℕ) (n old : ℕ) → T (goes? vectors) → clocks net vectors * outputs net ≡ n → n ≤ old → runSays net vectors old ≡ value n
-  unfolding runSays
-  run-says vectors n old t e h = rw (is-true (goes? vectors) t, e, le-ltb old n h)
+  run-says : (vectors : List ℕ) (n old : ℕ) → T (goes? vectors) → clocks net vectors * outputs net ≡ n → n ≤ old
+      → Row (value 0) (runFits net vectors) (clocks net vectors * outputs net) old (value n)
+  run-says vectors n old t e h = row-goes (is-true (goes? vectors) t) (omega (arith, e, h)) (sym e)
 
   module _ (reads : Reads (textOf net) (value 0) net) where
     pub text-claim : (o : T.Result) → T (limits? o) → T.ClaimOf (graphOf net) (regsOf net) (delayOf net) (net .period) o → ClaimOf (textOf net) (resultOf net o)
@@ -101,23 +103,25 @@ module _ (net : Netlist) where
           reads,
           l,
           λ out lags room.
-              found net reads room (tableLag r) (h .answer .least) (movedNet net (tableLag r) c)
-              (moved (narrow-yes (tableLag r) y) (few-yes (tableLag r) z) c (h .answer .best) (ap value (sym (h .chosen))) refl)
-              (record {
+              of-left net reads (from-9 net room (record {
+                lag = tableLag r;
+                choice = c;
+                answer = subst (MovedBy net (tableLag r) c) (ap value (h .chosen))
+                    (moved net (tableLag r) c (h .answer .least) (narrow-yes (tableLag r) y) (few-yes (tableLag r) z) (h .answer .best));
                 buffer = ap (λ m. textOf m ++ drop (length (textOf m)) out) (moved-is (tableLag r) c counts words (h .count) (h .start));
                 table = ap (λ a. a ++ drop (length a) lags) (sym (lags-are r l));
-              }),
+              })),
         ))) t
-    text-claim T.refused-8 t h = (net, reads, λ out lags room. eight net reads room h (record { answer = refl; buffer = refl; table = refl }))
+    text-claim T.refused-8 t h = (net, reads, λ out lags room. of-left net reads (none net room h))
     text-claim (T.refused-9 r e) t h =
-        (net, reads, λ out lags room. found net reads room (tableLag r) (h .0) net (wide e (h .1) refl) (record { buffer = refl; table = refl }))
+        (net, reads, λ out lags room. of-left net reads (from-9 net room (said out lags net (tableLag r) 0 (wide net (tableLag r) 0 (h .0) e (h .1)))))
     text-claim (T.refused-11 r) t h =
         ands (narrow? (tableLag r)) (few? (tableLag r))
         (λ y z. (
           net,
           reads,
           λ out lags room.
-              found net reads room (tableLag r) (h .0) net (startless (narrow-yes (tableLag r) y) (few-yes (tableLag r) z) (h .1) refl) (record { buffer = refl; table = refl }),
+              of-left net reads (from-9 net room (said out lags net (tableLag r) 0 (startless net (tableLag r) 0 (h .0) (narrow-yes (tableLag r) y) (few-yes (tableLag r) z) (h .1)))),
         )) t
     text-claim (T.shows v vectors outs) t h =
         ands (goes? vectors) _
@@ -129,7 +133,7 @@ module _ (net : Netlist) where
           checked = value 0;
           net = net;
           reads = reads;
-          answer = sym (run-says vectors (length outs) (length old) x n k);
+          answer = run-says vectors (length outs) (length old) x n k;
           buffer = ap (λ l. l ++ drop (length l) old) (sym o);
         })) t
 

@@ -19,12 +19,13 @@ use Rattle.netlist.specs.declared.Netlist.{Netlist}
 use Rattle.netlist.specs.Answer.{value}
 use Rattle.netlist.specs.Net.{zeros, graphOf, regsOf}
 use Rattle.rules.specs.Rules.{ruleOf}
-use Rattle.netlist.specs.Read.{sound, Reads, judged}
+use Rattle.netlist.specs.Read.{Reads, judged}
 use Rattle.netlist.specs.Write.{textOf}
 use Rattle.netlist.specs.Theorems.{Fit, Clean}
 use Rattle.netlist.proofs.Rows.{length-zeros}
 use Rattle.netlist.proofs.Fits.{headTest, nodeTest, edgeTest}
 use Rattle.netlist.proofs.Run.{fit-rows, fit-wired}
+use Rattle.netlist.proofs.Judged.{judged-sound}
 use Rattle.netlist.proofs.theorems.Lines.{lines-fact}
 use Rattle.retime.proofs.cards.Net.{netOf, padded-at}
 
@@ -159,13 +160,12 @@ module _ (t : Rows) (period : ℕ) where
       let f = fits a in
       let w = fit-wired net f in
       judged net (lines-fact (textOf net) net .1 (f, clean s f, refl))
-      (sound
+      (judged-sound net
       (λ v h. ands (leb (ruleOf (graphOf net .kind v) .fewest) (fan-in (graphOf net) v)) _ (λ x y. (leb→le _ _ x, leb→le _ _ y)) (all-elim (net .nodes) (fan? (graphOf net)) b v h))
       (rank-no-loop (λ v. v) (λ i h z. ltb→lt (graphOf net .src i) (graphOf net .dst i)
       (imp-elim (eqb (regsOf net .count i) 0) (ltb (graphOf net .src i) (graphOf net .dst i)) (all-elim (net .edges) (climbs net) c i h) (rw z tt))))
       (λ v h. (
         fed (graphOf net) w (net .nodes) (all-elim (net .nodes) (fed? (graphOf net)) d) v h h,
         drained (graphOf net) w (net .nodes) (all-elim (net .nodes) (drained? (graphOf net)) e) v (omega arith) h,
-      ))
-      refl)
+      )))
       refl)))))

@@ -1,5 +1,5 @@
 -- `retime::put_lags` meets its contract: the first v lags are put, the others are as they were.
-use Prim.Native.Nat.{_+_, _-_, _≤_}
+use Prim.Native.Nat.{_-_, _≤_}
 use mathlib.Core.Path.{_≡_, refl, ap, ap₂, _∙_}
 use mathlib.Core.List.{[], _∷_, _++_}
 use native.Mathlib.Omega.{arith}
@@ -10,8 +10,9 @@ use mir.Syntax.{w32}
 use mir.Facts.{toZ-ofZ}
 use Rattle.netlist.specs.Write.{joined}
 use Rattle.moves.specs.inner.Labels.{lagsOf}
-use Rattle.moves.proofs.Labels.{lag-fits}
-use Rattle.moves.proofs.Rows.{rows-length, rows-more}
+use Rattle.lags.proofs.Laws.{lag-fits}
+use Rattle.netlist.proofs.Rows.{rows-length}
+use Rattle.moves.proofs.Rows.{rows-more}
 use Rattle.retime.proofs.put_lags.Statement.{statement}
 use Rattle.retime.proofs.put_lags.Tie as tie
 

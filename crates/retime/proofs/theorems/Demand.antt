@@ -5,11 +5,11 @@
 --   comes-asked         what comes back is asked for
 --   came                what came back
 --   demand-follows, lags-fit
-use Prim.Native.Nat.{ℕ, _+_, _<_, _≤_}
+use Prim.Native.Nat.{ℕ, _<_, _≤_}
 use native.Mathlib.Omega.{arith}
 use native.Mathlib.Decide.{decLe, decLt}
 use mathlib.Core.Path.{_≡_, refl, sym, ap, _∙_, subst}
-use mathlib.Core.Logic.{_↔_, inl, inr}
+use mathlib.Core.Logic.{_↔_}
 use mathlib.Core.List.{List, _++_}
 use lib.IntN.{ℤ, pos}
 use lib.ListN.{length, take, drop}
@@ -20,14 +20,13 @@ use Rattle.theory.specs.Gate.{gate}
 use Rattle.theory.specs.Lag.{up, down, newCount, Legal}
 use Rattle.theory.specs.Move.{quiet, Carries, choiceOf}
 use Rattle.theory.specs.Retimer.{Sound, retimed}
-use Rattle.theory.specs.inner.Demand.{Solution, Demand}
+use Rattle.theory.specs.inner.Demand.{Demand}
 use Rattle.theory.proofs.numbers.Whole.{no-up}
 use Rattle.theory.proofs.walks.Walks.{walk-start, walk-shift}
 use Rattle.theory.proofs.walks.Short.{short-walk, few-registers}
 use Rattle.theory.proofs.clocks.Trace.{unique}
 use Rattle.theory.proofs.moves.Retime.{new-no-loop, new-trace, carried-any}
 use Rattle.theory.proofs.labels.Bias.{legal-shifts}
-use Rattle.theory.proofs.least.Exists.{least-unique}
 use Rattle.theory.proofs.retimer.Demand.{demand}
 use Rattle.theory.proofs.retimer.Levels.{lag-chosen}
 use Rattle.netlist.specs.declared.Netlist.{Netlist}
@@ -36,6 +35,7 @@ use Rattle.netlist.specs.Net.{graphOf, regsOf, delayOf}
 use Rattle.netlist.specs.Read.{Reads}
 use Rattle.netlist.specs.Write.{textOf}
 use Rattle.netlist.proofs.Fits.{edge-fits}
+use Rattle.netlist.proofs.Order.{later}
 use Rattle.netlist.proofs.Run.{fit-rows}
 use Rattle.netlist.proofs.theorems.Sound.{read-is-sound}
 use Rattle.simulate.specs.Run.{Runs}
@@ -45,9 +45,11 @@ use Rattle.moves.specs.Moved.{movedNet}
 use Rattle.retime.specs.Retime.{LeastLags, NarrowAt, BestAt, lagTable, Retimes}
 use Rattle.retime.specs.Demand.{Startable, Asked, ComesBack, tableLag, Came}
 use Rattle.retime.specs.Theorems.{DemandFollows, LagsFit}
-use Rattle.moves.proofs.Rows.{rows-at}
-use Rattle.moves.proofs.Lags.{count-alike, least-alike, best-alike}
-use Rattle.retime.proofs.Ends.{Fact, First, stageOf, End, Told, told-of, tell, told-at, before-done}
+use Rattle.netlist.proofs.Rows.{rows-at}
+use Rattle.moves.proofs.Lags.{least-alike, best-alike}
+use Rattle.retime.specs.inner.Leaves.{FromShort, Leaves}
+use Rattle.retime.proofs.Order.{no-wide, no-many, no-startless, narrow-alike, few-alike, Settled, Fact, told, moved-at}
+use Rattle.retime.proofs.Call.{left-of}
 use Rattle.retime.proofs.theorems.Moved.{same-length, moved-reads, moved-regs, moved-circuit, moved-alike}
 
 -- ── Both texts run alike ────────────────────────────────────────────────────────────────────
@@ -103,70 +105,60 @@ module _ (t : List ℕ) (net : Netlist) (r : ℕ → ℤ) (c : ℕ) (h : Reads t
 -- ── The call ────────────────────────────────────────────────────────────────────────────────
 
 module _ (t out : List ℕ) (lags : List ℤ) (s : Said) (out′ : List ℕ) (lags′ : List ℤ) (net : Netlist) (h : Reads t (value 0) net) (o : Retimes t out lags s out′ lags′) where
-  told : Told t out lags s out′ lags′ net
-  told = told-of net h o
+  left : Leaves (FromShort t out lags net) net out lags s out′ lags′
+  left = left-of net h o
+
+  settled : ComesBack s → Settled t out lags net (left .lag) (left .choice)
+  settled (k, p) = subst (Fact t out lags net (left .lag) (left .choice)) p (told t out lags net (left .lag) (left .choice) (left .answer))
 
   -- A call that comes back had room, and was within the limits of 9 and 10, as the least lags are one at each node.
   pub comes-asked : ComesBack s → Asked t out lags net
-  comes-asked (k, p) = go (told-at t out lags s out′ lags′ net told 5 (ap stageOf p))
-    where
-      go : First t out lags net 5 × End t out lags s out′ lags′ net 5 → Asked t out lags net
-      go (first, (r, l, n, c, b, z, w)) =
-          let ok = read-is-sound t net h in
-          let room = first .none-before 0 (omega arith) in
-          let narrow : (q : ℕ → ℤ) → LeastLags net q → NarrowAt net q =
-          λ q m e g. omega (arith, n e g, count-alike gate (graphOf net) (ok .wired) (regsOf net) r q (least-unique r q l m) e g) in
-          record {
-            reads = h;
-            room = record {
-              text = let y : ¬ (length out < length t) = λ x. room (inl x) in omega arith;
-              table = let y : ¬ (length lags < net .nodes) = λ x. room (inr x) in omega arith;
-            };
-            few = λ q m. (narrow q m, λ many. first .none-before 3 (omega arith) (q, m, narrow q m, many));
-          }
+  comes-asked back =
+      let f = settled back in
+      let ok = read-is-sound t net h in
+      record {
+        reads = h;
+        room = f .room;
+        few = λ q m. (narrow-alike net ok (left .lag) q (f .least) m (f .narrow), few-alike net ok (left .lag) q (f .least) m (f .few));
+      }
 
-  back : ComesBack s → Startable net
-  back (k, p) = go (told-at t out lags s out′ lags′ net told 5 (ap stageOf p) .0 .holds)
-    where
-      go : Fact t out lags net 5 → Startable net
-      go (r, c, a) = demand gate (graphOf net) (regsOf net) (read-is-sound t net h) (delayOf net) (net .period) .only-then r c a
+  only : ComesBack s → Startable net
+  only back =
+      let f = settled back in
+      demand gate (graphOf net) (regsOf net) (read-is-sound t net h) (delayOf net) (net .period) .only-then (left .lag) (left .choice) (record { least = f .least; best = f .best })
 
   -- The least retiming has a start too, and the limits of 9 and 10 are kept: no refusal's fact holds.
   forth : Asked t out lags net → Startable net → ComesBack s
-  forth asked p = go (demand gate (graphOf net) (regsOf net) (read-is-sound t net h) (delayOf net) (net .period) .comes-back p)
-    where
-      written : End t out lags s out′ lags′ net 5 → ComesBack s
-      written (r, l, n, c, b, z, w) = (_, z)
-
-      go : (r : ℕ → ℤ) × (c : ℕ) × Solution gate (graphOf net) (regsOf net) (delayOf net) (net .period) r c → ComesBack s
-      go (r, c, a) =
-          let few = asked .few r (a .least) in
-          written (tell t out lags s out′ lags′ net told 5
-          (record { holds = (r, c, a); none-before = before-done t out lags net h (asked .room) r (a .least) (few .0) (few .1) c (a .best) }))
+  forth asked p =
+      let ok = read-is-sound t net h in
+      let (r, c, a) = demand gate (graphOf net) (regsOf net) ok (delayOf net) (net .period) .comes-back p in
+      let (narrow, few) = asked .few r (a .least) in
+      let row = moved-at t out lags net (left .lag) (left .choice) ok (asked .room) r (a .least) (left .answer) in
+      (_, later s (no-startless net r c (a .best)) (later s (no-many net r few) (later s (no-wide net r narrow) row)) .1)
 
   came : ComesBack s → Came t net (take (length t) out′) (tableLag lags′)
-  came (k, p) = go (told-at t out lags s out′ lags′ net told 5 (ap stageOf p) .1)
-    where
-      go : End t out lags s out′ lags′ net 5 → Came t net (take (length t) out′) (tableLag lags′)
-      go (r, l, n, c, b, z, w) =
-          let ok = read-is-sound t net h in
-          let q : ℕ → ℤ = tableLag lags′ in
-          let table : lags′ ≡ lagTable net r ++ drop (length (lagTable net r)) lags = w .table ∙ ap (λ a. holds a (lagTable net r) lags) p in
-          let same : (v : ℕ) → v < net .nodes → r v ≡ q v = λ v hv. sym (ap (λ a. tableLag a v) table ∙ rows-at r (pos 0) (net .nodes) v (drop (length (lagTable net r)) lags) hv) in
-          let text : take (length t) out′ ≡ textOf (movedNet net q c) =
-          ap (take (length t)) (w .buffer ∙ ap (λ a. holds a (textOf (movedNet net r c)) out) p)
-          ∙ take-at (textOf (movedNet net r c)) (drop (length (textOf (movedNet net r c))) out) (length t) (same-length t net r c h)
-          ∙ ap textOf (moved-alike net r q c (ok .wired) same) in
-          let least = least-alike gate (graphOf net) (ok .wired) (regsOf net) r q same (delayOf net) (net .period) l in
-          let narrow = comes-asked (k, p) .few q least .0 in
-          subst (λ x. Came t net x q) (sym text) (came-back t net q c h least narrow (best-alike gate (graphOf net) (regsOf net) ok r q (l .feasible .legal) same c b))
+  came (k, p) =
+      let f = settled (k, p) in
+      let ok = read-is-sound t net h in
+      let r = left .lag in
+      let c = left .choice in
+      let q : ℕ → ℤ = tableLag lags′ in
+      let table : lags′ ≡ lagTable net r ++ drop (length (lagTable net r)) lags = left .table ∙ ap (λ a. holds a (lagTable net r) lags) p in
+      let same : (v : ℕ) → v < net .nodes → r v ≡ q v = λ v hv. sym (ap (λ a. tableLag a v) table ∙ rows-at r (pos 0) (net .nodes) v (drop (length (lagTable net r)) lags) hv) in
+      let text : take (length t) out′ ≡ textOf (movedNet net q c) =
+      ap (take (length t)) (left .buffer ∙ ap (λ a. holds a (textOf (movedNet net r c)) out) p)
+      ∙ take-at (textOf (movedNet net r c)) (drop (length (textOf (movedNet net r c))) out) (length t) (same-length t net r c h)
+      ∙ ap textOf (moved-alike net r q c (ok .wired) same) in
+      let least = least-alike gate (graphOf net) (ok .wired) (regsOf net) r q same (delayOf net) (net .period) (f .least) in
+      let narrow = comes-asked (k, p) .few q least .0 in
+      subst (λ x. Came t net x q) (sym text) (came-back t net q c h least narrow (best-alike gate (graphOf net) (regsOf net) ok r q (f .least .feasible .legal) same c (f .best)))
 
 -- A call that comes back has the least lags and the smallest number that carries the start there, so some retiming carries it. Back: where some legal retiming that meets the
 -- period carries the start, the least one does (Pan's theorem, in the theory's demand), no refusal's fact holds, and the call comes back. What came back is the original
 -- moved by the table's lags: it reads, and it runs as the original does, as their traces agree at the pins on all inputs, at every clock.
 pub demand-follows : DemandFollows
 demand-follows t out lags s out′ lags′ o = record {
-  exactly = λ net asked. (back t out lags s out′ lags′ net (asked .reads) o, forth t out lags s out′ lags′ net (asked .reads) o asked);
+  exactly = λ net asked. (only t out lags s out′ lags′ net (asked .reads) o, forth t out lags s out′ lags′ net (asked .reads) o asked);
   came = λ net h. came t out lags s out′ lags′ net h o;
 }
 

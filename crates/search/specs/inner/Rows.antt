@@ -1,9 +1,9 @@
 -- What is due, put in rows: a row is what is due of one edge at one level, a moved clock each. Rows of lower levels come first.
---   Level               l is the level of cell i, which stands among the cells of that level
+--   Level               l is the level of cell i, which is among the cells of that level
 --   ofLevel level m l   the dues of l that ask cells of level m, in their order
 --   RowsEnd left a b    at each place from a up to b something is left of a row, and the row ends by b
 --   Rows                rows of lower levels come first, those below level m before rows(m), and every row ends within the dues
---   SameDues            what stands at the first places of the row is what is due, and all of it does
+--   SameDues            the first places of the row hold what is due, and all of it
 use mathlib.Core.Bool.{cond}
 use mathlib.Core.List.{List, [], _∷_}
 use Prim.Native.Nat.{ℕ, suc, _+_, _/_, _<_, _≤_}

@@ -1,26 +1,28 @@
 -- Two netlists with the same nodes run alike where their traces agree at the outputs.
 --   before-like         the inputs and the outputs have the same places
 --   runs-alike
-use Prim.Native.Nat.{ℕ, _+_, _*_, _/_, _<_, _≤_}
+use Prim.Native.Nat.{ℕ, _+_, _*_, _/_, _%_, _<_, _≤_}
 use native.Mathlib.Omega.{arith}
-use mathlib.Core.Path.{_≡_, refl, sym, ap, ap₂, _∙_}
+use mathlib.Core.Path.{_≡_, refl, sym, ap, ap₂, _∙_, subst₂}
 use mathlib.Core.Bool.{true}
-use mathlib.Core.List.{List}
+use mathlib.Core.List.{List, [], _∷_}
+use lib.Dec.{eqb}
 use lib.ListN.{length, getD}
 use Rattle.theory.specs.Clock.{gather, Trace}
 use Rattle.theory.specs.Gate.{gate}
+use Rattle.theory.proofs.clocks.Seen.{gather-like}
 use Rattle.netlist.specs.declared.Netlist.{Netlist}
-use Rattle.netlist.specs.Answer.{Said, value, refused, andThen, holds}
+use Rattle.netlist.specs.Answer.{Said, value, refused, holds}
 use Rattle.netlist.specs.Net.{graphOf, regsOf}
 use Rattle.netlist.specs.Read.{Reads}
+use Rattle.rules.specs.Rules.{every}
 use Rattle.netlist.proofs.Rows.{joined-same}
 use Rattle.netlist.proofs.theorems.One.{one-reading}
-use Rattle.simulate.specs.Clock.{earlier}
+use Rattle.simulate.specs.Clock.{earlier, outputs}
 use Rattle.simulate.specs.Step.{onlyBits}
-use Rattle.simulate.specs.Run.{clocksFrom, clocks, runSays}
+use Rattle.simulate.specs.Run.{clocksFrom, clocks, runFits}
 use Rattle.simulate.specs.Theorems.{byteAt, RunsAlike}
-use Rattle.simulate.proofs.Lists.{gather-like}
-use Rattle.simulate.proofs.Says.{run-goes}
+use Rattle.simulate.proofs.Says.{Row, run-goes}
 use Rattle.simulate.proofs.theorems.Trace.{trace-exists, run-is-trace}
 
 module _ (t t′ : List ℕ) (net net′ : Netlist) (r : Reads t (value 0) net) (r′ : Reads t′ (value 0) net′)
@@ -32,9 +34,10 @@ module _ (t t′ : List ℕ) (net net′ : Netlist) (r : Reads t (value 0) net) 
   all-like : (k : ℕ) → earlier net k (net .nodes) ≡ earlier net′ k (net′ .nodes)
   all-like k = before-like k (net .nodes) (omega arith) ∙ ap (earlier net′ k) nodes
 
-  says-like : (vectors : List ℕ) (room : ℕ) → runSays net vectors room ≡ runSays net′ vectors room
-  unfolding runSays
-  says-like vectors room = rw (all-like 0, all-like 1)
+  says-like : (vectors : List ℕ) (room : ℕ) (s : Said) → Row (value 0) (runFits net vectors) (clocks net vectors * outputs net) room s
+      → Row (value 0) (runFits net′ vectors) (clocks net′ vectors * outputs net′) room s
+  says-like vectors room s =
+      subst₂ (λ i o. Row (value 0) (every (eqb (length vectors % i) 0 ∷ onlyBits vectors ∷ [])) (length vectors / i * o) room s) (all-like 0) (all-like 1)
 
   module _ (agree : (ins x y : ℕ → ℕ → ℕ) → Trace gate (graphOf net) (regsOf net) ins x → Trace gate (graphOf net′) (regsOf net′) ins y
       → (v k : ℕ) → v < net .nodes → getD (net .kind) v 0 ≡ 1 → x v k ≡ y v k) (vectors : List ℕ) where
@@ -55,10 +58,10 @@ module _ (t t′ : List ℕ) (net net′ : Netlist) (r : Reads t (value 0) net) 
         ∙ ap (gather (graphOf net′ .kind) (λ v. y v k) 1) nodes in
         run-is-trace t net n vectors x r b (X .1) ∙ joined-same _ _ n (λ k h. out k) ∙ sym (run-is-trace t′ net′ n vectors y r′ b Y′)
 
-    buffer-like : (s : Said) (old : List ℕ) → s ≡ runSays net vectors (length old)
+    buffer-like : (s : Said) (old : List ℕ) → Row (value 0) (runFits net vectors) (clocks net vectors * outputs net) (length old) s
         → holds s (clocksFrom net (clocks net vectors) (net .start) vectors) old ≡ holds s (clocksFrom net′ (clocks net′ vectors) (net′ .start) vectors) old
     buffer-like (value o) old q =
-        let g = run-goes net vectors (length old) o q in
+        let g = run-goes (value 0) net vectors (length old) o q in
         ap (λ l. holds (value o) l old) (clocks-like (clocks net vectors) (g .vector-bits) ∙ ap (λ i. clocksFrom net′ (length vectors / i) (net′ .start) vectors) (all-like 0))
     buffer-like (refused q k p) old e = refl
 
@@ -66,11 +69,11 @@ module _ (t t′ : List ℕ) (net net′ : Netlist) (r : Reads t (value 0) net) 
 pub runs-alike : RunsAlike
 runs-alike t t′ net net′ r r′ nodes kinds agree vectors old s new w =
     let c = one-reading t (w .checked) (value 0) (w .net) net (w .reads) r in
-    let answer : s ≡ runSays net vectors (length old) = w .answer ∙ ap₂ (λ a n. andThen a (runSays n vectors (length old))) (c .0) (c .1) in
+    let answer = subst₂ (λ a n. Row a (runFits n vectors) (clocks n vectors * outputs n) (length old) s) (c .0) (c .1) (w .answer) in
     record {
       checked = value 0;
       net = net′;
       reads = r′;
-      answer = answer ∙ says-like t t′ net net′ r r′ nodes kinds vectors (length old);
+      answer = says-like t t′ net net′ r r′ nodes kinds vectors (length old) s answer;
       buffer = w .buffer ∙ ap (λ n. holds s (clocksFrom n (clocks n vectors) (n .start) vectors) old) (c .1) ∙ buffer-like t t′ net net′ r r′ nodes kinds agree vectors s old answer;
     }

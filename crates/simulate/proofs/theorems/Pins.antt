@@ -2,16 +2,14 @@
 --   has-pins
 use Prim.Native.Nat.{ℕ, _<_}
 use native.Mathlib.Omega.{arith}
-use mathlib.Core.Path.{_≡_, refl}
+use mathlib.Core.Path.{_≡_}
 use mathlib.Core.Bool.{true}
 use Rattle.frame.specs.Frame.{within}
 use Rattle.theory.proofs.walks.Walks.{walk-start, walk-end}
 use Rattle.rules.specs.Rules.{headFits}
 use Rattle.netlist.proofs.Fits.{both, within-true}
 use Rattle.netlist.proofs.Run.{fit-wired}
-use Rattle.netlist.proofs.theorems.Lines.{lines-fact}
-use Rattle.netlist.proofs.theorems.Refusals.{none-fact}
-use Rattle.netlist.proofs.theorems.Sound.{reads-value}
+use Rattle.netlist.proofs.theorems.Sound.{reads-keeps}
 use Rattle.simulate.specs.Theorems.{HasPins}
 use Rattle.simulate.proofs.Lists.{before-less}
 
@@ -27,9 +25,9 @@ head-nodes p d n e h =
 -- Node 0 is there, so a walk leads to it from an input and another from it to an output; the ends of walks are nodes.
 pub has-pins : HasPins
 has-pins t net r =
-    let k = reads-value r in
-    let fit = lines-fact t net .0 (k .0) .0 in
-    let j = none-fact (k .1) refl .2 0 (head-nodes (net .period) (net .derate) (net .nodes) (net .edges) (fit .head)) in
+    let k = reads-keeps r in
+    let fit = k .lines in
+    let j = k .joined 0 (head-nodes (net .period) (net .derate) (net .nodes) (net .edges) (fit .head)) in
     let input = before-less net 0 (j .0 .from) (net .nodes) (j .0 .input) (walk-start (j .0 .walk)) in
     let output = before-less net 1 (j .1 .to) (net .nodes) (j .1 .output) (walk-end (fit-wired net fit) (j .1 .walk)) in
     (omega arith, omega arith)

@@ -8,7 +8,7 @@ use mathlib.Core.List.{List, _++_}
 use lib.ListN.{length, take, drop}
 use lib.Seq.{take-at}
 use Rattle.netlist.specs.declared.Netlist.{Netlist}
-use Rattle.netlist.specs.Answer.{value, andThen, holds}
+use Rattle.netlist.specs.Answer.{value, holds}
 use Rattle.netlist.specs.Read.{Reads}
 use Rattle.netlist.specs.Write.{textOf}
 use Rattle.netlist.proofs.theorems.One.{one-reading}
@@ -16,10 +16,10 @@ use Rattle.netlist.proofs.theorems.Lines.{lines-fact}
 use Rattle.netlist.proofs.theorems.Sound.{reads-value, read-is-sound}
 use Rattle.simulate.specs.declared.Machine.{Machine}
 use Rattle.simulate.specs.Clock.{inputs, outputs, outputValues, wordsAfter}
-use Rattle.simulate.specs.Step.{stepSays, Steps}
+use Rattle.simulate.specs.Step.{stepFits, Steps}
 use Rattle.simulate.specs.Run.{clocksFrom}
 use Rattle.simulate.specs.Theorems.{RunIsStepping, StepsGoOn}
-use Rattle.simulate.proofs.Says.{StepGoes, step-goes, step-says}
+use Rattle.simulate.proofs.Says.{Row, StepGoes, step-goes, step-says}
 use Rattle.simulate.proofs.Clock.{fit-words, words-fit, start-fits, fits-after, output-length}
 
 -- A text that reads is its netlist's own (`lines-fact`), so the step checks and steps that netlist, and puts out its outputs' values.
@@ -30,8 +30,8 @@ run-is-stepping t net m m′ n o vectors old new r w =
     let back = w .same in
     let e : t ≡ textOf net = lines-fact t net .0 (reads-value r .0) .2 in
     let c = one-reading (textOf net) (w .checked) (value 0) back net (w .check) (subst (λ x. Reads x (value 0) net) e r) in
-    let answer : value o ≡ stepSays net (m .words) vector (length old) = w .answer ∙ ap₂ (λ s k. andThen s (stepSays k (m .words) vector (length old))) (c .0) (c .1) in
-    let number = step-goes net (m .words) vector (length old) o answer .number in
+    let answer = subst (λ k. Row (w .checked) (stepFits k (m .words) vector) (outputs k) (length old) (value o)) (c .1) (w .answer) in
+    let number = step-goes (w .checked) net (m .words) vector (length old) o answer .number in
     let words : m′ .words ≡ wordsAfter net (m .words) vector = ap (λ k. k .words) (w .machine) ∙ ap (λ k. wordsAfter k (m .words) vector) (c .1) in
     let out = outputValues net (m .words) vector in
     let buffer : new ≡ out ++ drop (length out) old = w .buffer ∙ ap (λ k. holds (value o) (outputValues k (m .words) vector) old) (c .1) in

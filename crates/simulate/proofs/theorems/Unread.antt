@@ -11,26 +11,32 @@ use native.Mathlib.Omega.{arith}
 use native.Mathlib.Decide.{decLt}
 use mathlib.Core.Path.{_≡_, refl, sym, ap, _∙_, subst}
 use mathlib.Core.List.{List, [], _∷_, _++_, append-assoc}
+use lib.Dec.{eqb}
 use lib.ListN.{length, getD, take, drop, length-append}
 use lib.Seq.{take-all, drop-at}
 use Rattle.frame.specs.Frame.{line, frameAt, number, numberAt, bytesOf}
-use Rattle.frame.proofs.Laws.{number-append, length-bytes}
+use Rattle.frame.proofs.Numbers.{number-append, length-bytes}
 use Rattle.theory.specs.Graph.{Wired}
 use Rattle.theory.specs.Walk.{Loop}
 use Rattle.netlist.specs.declared.Netlist.{Netlist}
-use Rattle.netlist.specs.Answer.{Said, value, refused, andThen, holds}
+use Rattle.netlist.specs.Answer.{Said, value, refused, holds}
+use Rattle.netlist.specs.Order.{here}
 use Rattle.netlist.specs.Net.{graphOf, regsOf}
 use Rattle.netlist.specs.Read.{Reads}
+use Rattle.rules.specs.Rules.{every}
 use Rattle.netlist.specs.Write.{headLine, nodeLine, edgeLine, joined, textOf}
 use Rattle.netlist.proofs.Fits.{head-fits}
+use Rattle.netlist.proofs.Order.{first, stops-one}
 use Rattle.netlist.proofs.Fields.{headBytes, four-numbers, four-frame}
 use Rattle.netlist.proofs.theorems.Lines.{lines-fact}
 use Rattle.netlist.proofs.theorems.Sound.{reads-value, read-is-sound}
-use Rattle.netlist.proofs.theorems.RoundTrip.{judged-zero, same-text}
+use Rattle.netlist.proofs.theorems.RoundTrip.{same-text}
 use Rattle.simulate.specs.declared.Machine.{Machine}
-use Rattle.simulate.specs.Clock.{outputValues, wordsAfter}
-use Rattle.simulate.specs.Step.{wordsFit, stepSays, machineAfter, Steps}
+use Rattle.simulate.specs.Clock.{inputs, outputs, outputValues, wordsAfter}
+use Rattle.simulate.specs.Step.{onlyBits, wordsFit, stepFits, machineAfter, Steps}
 use Rattle.simulate.specs.Theorems.{WordsUnread}
+use Rattle.simulate.proofs.Says.{Row}
+use Rattle.simulate.proofs.Ran.{reads-zero}
 use Rattle.simulate.proofs.Clock.{after-in, after-past, after-out, output-same, after-same}
 
 number-below : (n x : ℕ) → number (bytesOf n x) ≤ x
@@ -82,7 +88,7 @@ machine-past (refused q k p) net m vector n h = refl
 
 -- What two steps of the same netlist have in common, on machines m and k whose first n words agree.
 record Alike (net : Netlist) (n : ℕ) (m k : Machine) (vector old : List ℕ) (checked s : Said) : Type 0 where
-  answer : andThen checked (stepSays net (m .words) vector (length old)) ≡ andThen checked (stepSays net (k .words) vector (length old))
+  answer : Row checked (stepFits net (m .words) vector) (outputs net) (length old) s → Row checked (stepFits net (k .words) vector) (outputs net) (length old) s
   buffer : holds s (outputValues net (m .words) vector) old ≡ holds s (outputValues net (k .words) vector) old
   words : (e : ℕ) → e < n → getD (machineAfter s net m vector .words) e 0 ≡ getD (machineAfter s net k vector .words) e 0
   past : (j : Machine) → drop n (machineAfter s net j vector .words) ≡ drop n (j .words)
@@ -101,9 +107,10 @@ module _ (n : ℕ) (m k : Machine) (agree : (e : ℕ) → e < n → getD (m .wor
     alike-words (refused q j p) e h = agree e h
 
     alike : (i : ℕ) (s : Said) → Alike net n m k vector old (value i) s
-    unfolding stepSays
     alike i s = record {
-      answer = rw (fit-same net (m .words) (k .words) (net .edges) below);
+      answer =
+          subst (λ fit. Row (value i) (every (eqb (length vector) (inputs net) ∷ onlyBits vector ∷ fit ∷ [])) (outputs net) (length old) s)
+          (fit-same net (m .words) (k .words) (net .edges) below);
       buffer = ap (λ l. holds s l old) (output-same net wired no-loop (m .words) (k .words) vector below);
       words = alike-words s;
       past = λ j. machine-past s net j vector n few;
@@ -111,14 +118,15 @@ module _ (n : ℕ) (m k : Machine) (agree : (e : ℕ) → e < n → getD (m .wor
 
   -- A reading that refuses nothing has read a sound netlist, of no more than n edges; after any other nothing is stepped.
   alike-read : (net back : Netlist) (checked s : Said) → net .edges ≡ n → Reads (textOf net) checked back
-      → s ≡ andThen checked (stepSays back (m .words) vector (length old)) → Alike back n m k vector old checked s
+      → Row checked (stepFits back (m .words) vector) (outputs back) (length old) s → Alike back n m k vector old checked s
   alike-read net back (value i) s e r q =
-      let z : i ≡ 0 = judged-zero (reads-value r .1) in
+      let z : i ≡ 0 = reads-zero r in
       let r′ = subst (λ j. Reads (textOf net) (value j) back) z r in
       let f = read-is-sound (textOf net) back r′ in
       alike back (f .wired) (f .no-loop) (omega (arith, edges-read net back r′)) i s
   alike-read net back (refused a b c) s e r q =
-      subst (Alike back n m k vector old (refused a b c)) (sym q) (record { answer = refl; buffer = refl; words = agree; past = λ j. refl })
+      let stop : s ≡ refused a b c = first (stops-one (refused a b c)) s (refused a b c) refl q in
+      subst (Alike back n m k vector old (refused a b c)) (sym stop) (record { answer = λ x. here refl; buffer = refl; words = agree; past = λ j. refl })
 
 -- The two records have one text (`same-text`), so one netlist is checked and stepped.
 pub words-unread : WordsUnread
@@ -128,7 +136,7 @@ words-unread net net′ m k m′ vector old s new same agree w =
       checked = w .checked;
       same = w .same;
       check = subst (λ x. Reads x (w .checked) (w .same)) (same-text net net′ same) (w .check);
-      answer = w .answer ∙ a .answer;
+      answer = a .answer (w .answer);
       machine = refl;
       buffer = w .buffer ∙ a .buffer;
     } in

@@ -1,9 +1,11 @@
 -- The evaluation plan of a netlist, made once. One clock's signals stand in one list: node v's value at v, what edge e shows from its register at 512 + e.
 --   signal net e        where the signal stands that edge e shows
+--   NoInput kind v      node v is no input
 --   Planned net p       p is a plan of the netlist
 use mathlib.Core.Path.{_≡_}
 use mathlib.Core.Bool.{cond}
 use mathlib.Core.Logic.{_⊎_}
+use mathlib.Core.List.{List}
 use Prim.Native.Nat.{ℕ, suc, _+_, _-_, _<_, _≤_}
 use lib.Dec.{eqb}
 use Rattle.theory.specs.Clock.{gather}
@@ -14,6 +16,9 @@ use Rattle.simulate.specs.declared.plan.Plan.{Plan}
 
 abbrev pub signal : Netlist → ℕ → ℕ
 signal net e = cond (eqb (at (net .count) e) 0) (at (net .from) e) (512 + e)
+
+abbrev pub NoInput : List ℕ → ℕ → Type 0
+NoInput kind v = ¬ (at kind v ≡ 0)
 
 pub record Planned (net : Netlist) (p : Plan) : Type 0 where
   -- The nodes that are no inputs, each after the source of each edge without a register that enters it.

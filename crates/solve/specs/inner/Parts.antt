@@ -1,7 +1,7 @@
 -- What the cells of a program depend on. (A program is a row of cells, each a gate over chosen bits and earlier cells.)
 --   depth span x        how many leading bits the operand x depends on: bit x on the first x + 1
 --   Most                the most that a row of operands depends on
---   OperandsWired       the part of a right program that says where operands stand
+--   OperandsWired       the part of a right program that says where operands are
 --   BitsBelow           and that the chosen bits are below k
 --   Spans               no cell depends on more leading bits than its span
 use mathlib.Core.Bool.{cond}

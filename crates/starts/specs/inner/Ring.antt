@@ -1,15 +1,14 @@
--- The original on zeros, in a ring of 64 rows: node v's value at clock t stands in row t % 64, 512 cells long. Behind the rows, at 32,768, stand 0 and 1.
+-- The original on zeros, in a ring of 64 rows: node v's value at clock t stands in row t % 64, 512 slots long. Behind the rows, at 32,768, stand 0 and 1.
 --   row t               where the row of clock t begins
 --   quietly net v t     node v's value at clock t in the original, with all inputs at 0
 --   AskedAt lab t v     node v is asked for at clock t: its lag is below −t
 --   Followed            what is left in the ring: of each node the last 32 values that are asked for
---   Empty               nothing is in the rows yet
---   cellOf, edgeCell    where the value stands that an edge shows in clock s: by its source u, its w registers and their start values `word`; of edge e
---   Cells               the cells from place lo up to place hi are those of the edges there
+--   NothingYet          nothing is in the rows yet
+--   slotOf, edgeSlot    where the value stands that an edge shows in clock s: by its source u, its w registers and their start values `word`; of edge e
+--   Slots               the slots from place lo up to place hi are those of the edges there
 --   Puts                they are put there, and nothing else is
---   CellsOf             the cells are right at the places of the first n nodes of a list
---   EdgeRows, Cellable, CellableOf    what finding the cells asks of the columns
---   Kept, KeptAt        the first n members of a list that have a property, in their order in the first places of another; one of them
+--   SlotsOf             the slots are right at the places of the first n nodes of a list
+--   EdgeRows, Slotable, SlotableOf    what finding the slots asks of the columns
 use mathlib.Core.Path.{_≡_}
 use mathlib.Core.Bool.{cond}
 use mathlib.Core.Logic.{_⊎_}
@@ -21,7 +20,6 @@ use Rattle.theory.specs.Clock.{value}
 use Rattle.theory.specs.Gate.{gate}
 use Rattle.theory.specs.Move.{quiet}
 use Rattle.graph.specs.Columns.{at, bit}
-use Rattle.graph.specs.inner.Sort.{Stands}
 use Rattle.gates.specs.inner.Gates.{AllBits}
 use Rattle.netlist.specs.declared.Netlist.{Netlist}
 use Rattle.netlist.specs.Net.{graphOf, regsOf}
@@ -42,55 +40,41 @@ pub record Followed (net : Netlist) (lab ring : List ℕ) : Type 0 where
   pub one : at ring 32769 ≡ 1
   pub last : (v t : ℕ) → v < net .nodes → AskedAt lab t v → 16384 ≤ t + 32 + at lab v → at ring (row t + v) ≡ quietly net v t
 
-pub record Empty (ring : List ℕ) : Type 0 where
+pub record NothingYet (ring : List ℕ) : Type 0 where
   pub zero-all : (k : ℕ) → k < 32769 → at ring k ≡ 0
   pub one : at ring 32769 ≡ 1
 
--- ── Cells ───────────────────────────────────────────────────────────────────────────────────
+-- ── Slots ───────────────────────────────────────────────────────────────────────────────────
 
 -- Start value s while s is below w, and u's value at clock s − w after that.
-unfoldable pub cellOf : ℕ → ℕ → ℕ → ℕ → ℕ
-cellOf u w word s = cond (ltb s w) (32768 + bit word s) (row (s - w) + u)
+unfoldable pub slotOf : ℕ → ℕ → ℕ → ℕ → ℕ
+slotOf u w word s = cond (ltb s w) (32768 + bit word s) (row (s - w) + u)
 
-abbrev pub edgeCell : List ℕ → List ℕ → List ℕ → ℕ → ℕ → ℕ
-edgeCell from count start s e = cellOf (at from e) (at count e) (at start e) s
+abbrev pub edgeSlot : List ℕ → List ℕ → List ℕ → ℕ → ℕ → ℕ
+edgeSlot from count start s e = slotOf (at from e) (at count e) (at start e) s
 
-abbrev pub Cells : List ℕ → List ℕ → List ℕ → List ℕ → ℕ → ℕ → ℕ → List ℕ → Type 0
-Cells ins from count start s lo hi cells = (k : ℕ) → lo ≤ k → k < hi → at cells k ≡ edgeCell from count start s (at ins k)
+abbrev pub Slots : List ℕ → List ℕ → List ℕ → List ℕ → ℕ → ℕ → ℕ → List ℕ → Type 0
+Slots ins from count start s lo hi slots = (k : ℕ) → lo ≤ k → k < hi → at slots k ≡ edgeSlot from count start s (at ins k)
 
 pub record Puts (ins from count start : List ℕ) (s lo hi : ℕ) (old new : List ℕ) : Type 0 where
-  pub done : Cells ins from count start s lo hi new
+  pub done : Slots ins from count start s lo hi new
   pub rest : (k : ℕ) → (k < lo) ⊎ (hi ≤ k) → at new k ≡ at old k
 
 -- The edges that enter node v stand from place first(v) up to first(v + 1).
-abbrev pub CellsOf : List ℕ → ℕ → List ℕ → List ℕ → List ℕ → List ℕ → List ℕ → ℕ → List ℕ → Type 0
-CellsOf list n first ins from count start s cells = (i : ℕ) → i < n → Cells ins from count start s (at first (at list i)) (at first (suc (at list i))) cells
+abbrev pub SlotsOf : List ℕ → ℕ → List ℕ → List ℕ → List ℕ → List ℕ → List ℕ → ℕ → List ℕ → Type 0
+SlotsOf list n first ins from count start s slots = (i : ℕ) → i < n → Slots ins from count start s (at first (at list i)) (at first (suc (at list i))) slots
 
 pub record EdgeRows (from count start : List ℕ) (e : ℕ) : Type 0 where
   pub rows : (e < length from) × (e < length count) × (e < length start)
   pub source : at from e < 512
   pub width : at count e ≤ 32
 
-pub record Cellable (ins from count start : List ℕ) (size lo hi : ℕ) : Type 0 where
+pub record Slotable (ins from count start : List ℕ) (size lo hi : ℕ) : Type 0 where
   pub up : lo ≤ hi
-  pub in-cells : hi ≤ size
+  pub in-slots : hi ≤ size
   pub in-ins : hi ≤ length ins
   pub edges : (k : ℕ) → lo ≤ k → k < hi → EdgeRows from count start (at ins k)
 
-abbrev pub CellableOf : List ℕ → ℕ → List ℕ → List ℕ → List ℕ → List ℕ → List ℕ → ℕ → Type 0
-CellableOf list n first ins from count start size =
-    (i : ℕ) → i < n → (suc (at list i) < length first) × Cellable ins from count start size (at first (at list i)) (at first (suc (at list i)))
-
--- ── Lists ───────────────────────────────────────────────────────────────────────────────────
-
-pub record KeptAt (P : ℕ → Type 0) (old : List ℕ) (n : ℕ) (new : List ℕ) (i : ℕ) : Type 0 where
-  pub place : ℕ
-  pub within : place < n
-  pub same : at old place ≡ at new i
-  pub has : P (at new i)
-  pub before : (q : ℕ) → q < place → P (at old q) → Stands new i (at old q)
-
-pub record Kept (P : ℕ → Type 0) (old : List ℕ) (n : ℕ) (new : List ℕ) (r : ℕ) : Type 0 where
-  pub few : r ≤ n
-  pub each : (i : ℕ) → i < r → KeptAt P old n new i
-  pub every : (p : ℕ) → p < n → P (at old p) → Stands new r (at old p)
+abbrev pub SlotableOf : List ℕ → ℕ → List ℕ → List ℕ → List ℕ → List ℕ → List ℕ → ℕ → Type 0
+SlotableOf list n first ins from count start size =
+    (i : ℕ) → i < n → (suc (at list i) < length first) × Slotable ins from count start size (at first (at list i)) (at first (suc (at list i)))

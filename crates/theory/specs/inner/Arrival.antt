@@ -3,10 +3,14 @@
 --   Arrival             the arrival times: no chain is longer than its end's time says, and each time is reached
 --   Own, Passed         times that are high enough for each node alone, and for each empty edge
 --   FromPin             a walk from a pin with so many registers at most
+--   Infeasible          no legal labelling meets the period
+--   Under, UnderAll     a label and a time of a node, not above those under the labels r; nor under any legal labelling that meets the period
+use mathlib.Core.Path.{_≡_}
+use mathlib.Core.Logic.{_⊎_}
 use Prim.Native.Nat.{ℕ, suc, _+_, min, _≤_, _<_}
 use Rattle.theory.specs.Graph.{Graph, Pin}
 use Rattle.theory.specs.Walk.{Walk, registers, delays}
-use Rattle.theory.specs.inner.Labels.{Empty, Chain}
+use Rattle.theory.specs.inner.Labels.{Empty, Chain, LegalLabels, MeetsLabels}
 
 -- A chain that ends in v and has a delay of n at least, where all delays above the period count as the period and one.
 pub record Reached (G : Graph) (count delay : ℕ → ℕ) (P : ℕ) (lab : ℕ → ℕ) (v n : ℕ) : Type 0 where
@@ -34,3 +38,14 @@ pub record FromPin (G : Graph) (count : ℕ → ℕ) (v n : ℕ) : Type 0 where
   pub pin : Pin G from
   pub walk : Walk G from v
   pub few : registers count walk ≤ n
+
+-- No legal labelling meets the period.
+abbrev pub Infeasible : Graph → (ℕ → ℕ) → (ℕ → ℕ) → ℕ → ℕ → Type 0
+Infeasible G count delay B P = (r : ℕ → ℕ) → LegalLabels G count B r → MeetsLabels G count delay P r → ⊥
+
+-- The label is lower, or it is r's and a chain under r that ends in v takes as long.
+abbrev pub Under : Graph → (ℕ → ℕ) → (ℕ → ℕ) → ℕ → (ℕ → ℕ) → ℕ → ℕ → ℕ → Type 0
+Under G count delay P r v l t = (l < r v) ⊎ ((l ≡ r v) × Reached G count delay P r v t)
+
+abbrev pub UnderAll : Graph → (ℕ → ℕ) → (ℕ → ℕ) → ℕ → ℕ → ℕ → ℕ → ℕ → Type 0
+UnderAll G count delay B P v l t = (r : ℕ → ℕ) → LegalLabels G count B r → MeetsLabels G count delay P r → Under G count delay P r v l t

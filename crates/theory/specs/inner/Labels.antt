@@ -1,5 +1,10 @@
 -- Labels: lags with a bias, so that all are natural numbers. The label of a node is B + r(v), with B so large that no label falls below 0.
 -- The search for the least retiming runs on labels; labels/Bias says what that means for lags.
+--   Empty, Chain        an edge without a register under the labels; a walk of such edges
+--   Fits, LegalLabels   no edge has fewer than 0 registers; the labels of a legal retiming
+--   MeetsLabels, Late   every chain fits the period; a node at the end of one that does not
+--   Below               one labelling is below another
+--   LeastLabels         the least among the legal ones that meet the period
 use Prim.Native.Nat.{ℕ, _+_, _≤_, _<_}
 use mathlib.Core.Path.{_≡_}
 use Rattle.theory.specs.Graph.{Graph, Pin}

@@ -6,8 +6,9 @@ use denote.Ref.{now}
 use lib.ListN.{length}
 use borrow.Author.Needs.{needs}
 use Rattle.graph.specs.Columns.{at}
-use Rattle.choose.specs.inner.Sources.{sourceAt, SourceRows, Appended}
-use Rattle.choose.proofs.Sources.{appended-none, appended-more}
+use Rattle.choose.specs.inner.Sources.{sourceAt, SourceRows}
+use Rattle.graph.specs.inner.Lists.{Appended}
+use Rattle.graph.proofs.Fills.{appended-none, appended-more}
 use Rattle.choose.proofs.cells.append_sources.Statement.{statement}
 use Rattle.choose.proofs.cells.append_sources.Tie as tie
 

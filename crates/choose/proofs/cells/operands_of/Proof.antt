@@ -9,7 +9,7 @@ use Rattle.theory.specs.Move.{sum}
 use Rattle.graph.specs.Columns.{at}
 use lib.Seq.{getD-set-same}
 use Rattle.choose.specs.inner.Sources.{widthAt, OperandRows, Operands}
-use Rattle.moves.proofs.Labels.{sum-more, sum-none, sum-grows}
+use Rattle.theory.proofs.numbers.Sums.{sum-none, sum-more, sum-grows}
 use Rattle.choose.proofs.Sources.{operands-none, operands-more}
 use Rattle.choose.proofs.cells.operands_of.Statement.{statement}
 use Rattle.choose.proofs.cells.operands_of.Tie as tie

@@ -11,10 +11,20 @@ use Rattle.choose.proofs.choosing.compile.Statement.{statement}
 use Rattle.choose.proofs.choosing.compile.Tie as tie
 
 from-rows : (c : tie.Start) → c .args .t1 .edges ≤ length (c .args .t1 .from)
-from-rows c = let l : length (c .args .t1 .from) ≡ 1024 = search needs in omega (arith, l, low-edges _ _ (c .pre .0 .labelled))
+from-rows c = let l : length (c .args .t1 .from) ≡ 1024 = search needs in omega (arith, l, low-edges _ _ (c .pre .0 .moving .labelled))
 
 order-rows : (c : tie.After-order-of) → c .before .before .before .before .before .before .before .before .before .args .t1 .nodes ≤ length (c .order-of .result)
-order-rows c = omega (arith, low-nodes _ _ (c .before .before .before .before .before .before .before .before .before .pre .0 .labelled))
+order-rows c = omega (arith, low-nodes _ _ (c .before .before .before .before .before .before .before .before .before .pre .0 .moving .labelled))
+
+-- The stages, each from the one after it.
+abbrev kinds-put : tie.After-wire → tie.After-put-kinds
+kinds-put c = c .before .before .before .before .before .before .before
+
+abbrev numbered : tie.After-put-kinds → tie.After-number-cells
+numbered c = c .before .before .before .before .before .before .before .before
+
+abbrev start : tie.After-number-cells → tie.Start
+start c = c .before .before .before .before .before .before .before .before .before .before .before .before .before
 
 placed : (c : tie.After-number-cells)
     → Placed (c .before .before .before .before .before .before .before .before .before .before .before .before .before .args .t1) (now (c .before .before .before .before .before .before .before .before .before .before .before .before .before .args .lab)) (now (c .before .before .before .before .before .before .before .before .before .before .before .before .before .args .counts)) (c .before .before .before .before .order-of .result) (c .number-cells .last .1 .1 .1 .0) (c .number-cells .last .1 .1 .1 .1 .0) (c .number-cells .result)
@@ -39,7 +49,7 @@ number-cells-requires : tie.Need-number-cells-requires
 number-cells-requires c κs =
     let o = c .before .before .before in
     let m = o .before .before .before .before .before .before .before .before .before .pre .0 in
-    ((arranged m (order-rows o) (o .order-of .ensures), m .labelled .rows), (low-lag m, (search needs, search needs)))
+    ((arranged m (order-rows o) (o .order-of .ensures), m .moving .labelled .rows), (low-lag m, (search needs, search needs)))
 
 slice-aggregate-put-kinds : tie.Need-slice-aggregate-put-kinds
 slice-aggregate-put-kinds c = search needs
@@ -50,7 +60,7 @@ put-kinds-requires c κs =
     let s = b .before .before .before .before .before .before .before .before .before .before .before .before .before in
     let p = placed b in
     let few = few-cells (s .pre .0) p in
-    ((omega (arith, few, s .pre .1 .0), omega (arith, few, p .numbered .code-rows)), λ i h. omega (arith, low-nodes _ _ (s .pre .0 .labelled), node-low (s .pre .0) p i h))
+    ((omega (arith, few, s .pre .1 .0), omega (arith, few, p .numbered .code-rows)), λ i h. omega (arith, low-nodes _ _ (s .pre .0 .moving .labelled), node-low (s .pre .0) p i h))
 
 slice-aggregate-wire : tie.Need-slice-aggregate-wire
 slice-aggregate-wire c = search needs
@@ -60,8 +70,8 @@ slice-aggregate-wire-2 c = search needs
 
 wire-requires : tie.Need-wire-requires
 wire-requires c κs =
-    let b = c .before .before .before .before .before .before .before .before .before .before .before .before .before .before in
-    let s = b .before .before .before .before .before .before .before .before .before .before .before .before .before in
+    let b = numbered (c .before .before .before .before .before .before) in
+    let s = start b in
     let p = placed b in
     (wirable (s .pre .0) p (from-rows s), (p .numbered .id-rows, p .numbered .code-rows, s .pre .1 .1, s .pre .1 .2))
 
@@ -73,10 +83,10 @@ slice-aggregate-dues-of-2 c = search needs
 
 dues-of-requires : tie.Need-dues-of-requires
 dues-of-requires c κs =
-    let b = c .before .before .before .before .before .before .before .before .before .before .before .before .before .before .before .before .before .before .before .before .before .before .before in
-    let s = b .before .before .before .before .before .before .before .before .before .before .before .before .before in
+    let b = numbered (kinds-put (c .before .before .before .before .before .before .before .before)) in
+    let s = start b in
     let p = placed b in
-    ((s .pre .0 .labelled, arranged (s .pre .0) (p .rows) (p .ordered), okay-all (s .pre .0) p), (s .pre .1 .3, s .pre .1 .4))
+    ((s .pre .0 .moving .labelled, arranged (s .pre .0) (p .rows) (p .ordered), okay-all (s .pre .0) p), (s .pre .1 .3, s .pre .1 .4))
 
 same-length : tie.Need-same-length
 same-length c = search needs
@@ -95,12 +105,14 @@ same-length-5 c = search needs
 
 returns : tie.Need-returns
 returns c =
-    let b = c .before .before .before .before .before .before .before .before .before .before .before .before .before .before .before .before .before .before .before .before .before .before .before .before .before .before .before .before in
-    let s = b .before .before .before .before .before .before .before .before .before .before .before .before .before in
-    let w = c .before .before .before .before .before .before .before .before .before .before .before .before .before .wire .ensures in
+    let wired = c .before .before .before .before .before .before .before .before .before .before .before .before .before in
+    let k = kinds-put wired .put-kinds in
+    let b = numbered (kinds-put wired) in
+    let s = start b in
+    let w = wired .wire .ensures in
     let d = c .before .before .before .before .dues-of .ensures in
-    standing (s .pre .0) (placed b) (from-rows s) (w .entering) _ (c .before .before .before .before .before .before .before .before .before .before .before .before .before .before .before .before .before .before .before .before .put-kinds .ensures) (w .operands) (d .0) (d .1)
-    (c .before .before .before .before .before .before .before .before .before .before .before .before .before .before .before .before .before .before .before .before .put-kinds .kept .1 .1 .1 .0 ∙ s .pre .1 .0) (c .before .before .before .before .before .before .before .before .before .before .before .before .before .wire .kept .1 .1 .1 .1 .1 .1 .0 ∙ s .pre .1 .1) (c .before .before .before .before .before .before .before .before .before .before .before .before .before .wire .kept .1 .1 .1 .1 .1 .1 .1 .0 ∙ s .pre .1 .2)
+    standing (s .pre .0) (placed b) (from-rows s) (w .entering) _ (k .ensures) (w .operands) (d .0) (d .1)
+    (k .kept .1 .1 .1 .0 ∙ s .pre .1 .0) (wired .wire .kept .1 .1 .1 .1 .1 .1 .0 ∙ s .pre .1 .1) (wired .wire .kept .1 .1 .1 .1 .1 .1 .1 .0 ∙ s .pre .1 .2)
 
 pub compile-spec : {M : Type 1} → statement M
 compile-spec =

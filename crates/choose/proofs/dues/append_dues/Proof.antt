@@ -4,9 +4,9 @@ use mathlib.Core.Path.{_≡_, refl, subst, ap, _∙_}
 use native.Mathlib.Omega.{arith}
 use borrow.Author.Needs.{needs}
 use denote.Ref.{now}
-use Rattle.choose.specs.inner.Sources.{Appended}
+use Rattle.graph.specs.inner.Lists.{Appended}
 use Rattle.choose.specs.inner.Dues.{cellAt, dueAt}
-use Rattle.choose.proofs.Sources.{appended-none, appended-more, appended-cut}
+use Rattle.graph.proofs.Fills.{appended-none, appended-more, appended-cut}
 use Rattle.choose.proofs.dues.append_dues.Statement.{statement}
 use Rattle.choose.proofs.dues.append_dues.Tie as tie
 

@@ -10,15 +10,16 @@ use Rattle.graph.specs.Columns.{at}
 use Rattle.moves.proofs.Labels.{from-node, low-nodes, low-edges}
 use Rattle.choose.specs.inner.Numbers.{lagAt}
 use Rattle.choose.specs.inner.Dues.{DuesTo, FewRows}
-use Rattle.choose.proofs.Owing.{rows-none, rows-more, dues-none, dues-all, owes-all}
+use Rattle.choose.proofs.Runs.{rows-none, rows-more, dues-none}
+use Rattle.choose.proofs.Owing.{dues-all, owes-all}
 use Rattle.choose.proofs.dues.dues_of.Statement.{statement}
 use Rattle.choose.proofs.dues.dues_of.Tie as tie
 
 abbrev Inv-loop : tie.InvT-loop
-Inv-loop lab order id due₀ begin₀ net nodes edges along top rows₀ n₀ low₀ due begin rows n low = (low ≤ 24) × (length due ≡ 24576) × (length begin ≡ 5121) × FewRows low rows × DuesTo net (lagAt lab) id along low low 0 rows due begin n
+Inv-loop lab order id due₀ begin₀ net nodes edges along top rows₀ low₀ due begin rows low = (low ≤ 24) × (length due ≡ 24576) × (length begin ≡ 5121) × FewRows low rows × DuesTo net (lagAt lab) id along low low 0 rows due begin (at begin rows)
 
 abbrev μ-loop : tie.MeasureT-loop
-μ-loop lab order id due₀ begin₀ net nodes edges along top rows₀ n₀ low₀ due begin rows n low = 24 - low
+μ-loop lab order id due₀ begin₀ net nodes edges along top rows₀ low₀ due begin rows low = 24 - low
 
 cast-nodes : tie.Need-cast-nodes Inv-loop μ-loop
 cast-nodes c = search needs
@@ -30,7 +31,7 @@ edges-along-requires : tie.Need-edges-along-requires Inv-loop μ-loop
 edges-along-requires c κs =
     let s = c .before .before .before .before .before .before .before .before in
     let rows : length (s .args .t1 .from) ≡ 1024 = search needs in
-    ((s .pre .0 .1, low-edges _ _ (s .pre .0 .0), omega (arith, low-edges _ _ (s .pre .0 .0))), from-node _ _ (s .pre .0 .0))
+    ((s .pre .0 .1 .few, s .pre .0 .1 .rows, s .pre .0 .1 .nodes-only), (low-edges _ _ (s .pre .0 .0), omega (arith, low-edges _ _ (s .pre .0 .0)), from-node _ _ (s .pre .0 .0)))
 
 top-of-requires : tie.Need-top-of-requires Inv-loop μ-loop
 top-of-requires c κs = let s = c .before .before .before .before .before .before .before .before .before in (low-nodes _ _ (s .pre .0 .0), s .pre .0 .0 .rows, s .pre .0 .2 .low)
@@ -61,32 +62,37 @@ least-requires c κs = search needs
 slice-aggregate-put-run : tie.Need-slice-aggregate-put-run Inv-loop μ-loop
 slice-aggregate-put-run c = search needs
 
+abbrev turn : tie.After-least Inv-loop μ-loop → tie.In-loop Inv-loop μ-loop
+turn c = c .before
+
+abbrev start : tie.In-loop Inv-loop μ-loop → tie.Start Inv-loop μ-loop
+start t = t .before .before .before .before .before .before .before .before .before .before .before .before
+
 put-run-requires : tie.Need-put-run-requires Inv-loop μ-loop
 put-run-requires c κs =
-    let s = c .before .before .before .before .before .before .before .before .before .before .before .before .before .before .before .before in
-    let l = c .before .before .before .before .before .loop in
+    let t = turn (c .before .before .before) in
+    let s = start t in
+    let l = t .before .loop in
     let low : l .low < 24 = omega (arith, c .before .before .before .before .loop-test .taken, c .before .before .before .before .before .before .top-of .ensures .0) in
     let high = c .before .before .before .least .ensures in
-    ((s .pre .0 .0, c .before .before .before .before .before .before .before .edges-along .ensures, s .pre .0 .2), ((omega (arith, low, high), omega (arith, low, high), l .inv .3 .to-15 low, search needs, l .inv .1, l .inv .2), l .inv .4))
-
-add-rows : tie.Need-add-rows Inv-loop μ-loop
-add-rows c = omega (arith, low-edges _ _ (c .before .before .before .before .before .before .before .before .before .before .before .before .before .before .before .before .before .before .before .before .before .pre .0 .0), c .before .before .before .before .before .before .before .before .before .before .loop .inv .3 .to-24)
+    ((s .pre .0 .0, c .before .before .before .before .before .before .before .edges-along .ensures, s .pre .0 .2), ((omega (arith, low, high), omega (arith, low, high), omega (arith, l .inv .3 .to-15 low), search needs, l .inv .1, l .inv .2), l .inv .4))
 
 loop-less : tie.Need-loop-less Inv-loop μ-loop
 loop-less c = omega (arith, c .before .before .before .before .before .before .before .before .before .loop-test .taken, c .before .before .before .before .before .before .before .before .before .before .before .top-of .ensures .0, c .before .before .before .before .before .before .before .before .least .ensures)
 
 loop-again : tie.Need-loop-again Inv-loop μ-loop
 loop-again c =
-    let s = c .before .before .before .before .before .before .before .before .before .before .before .before .before .before .before .before .before .before .before .before .before in
-    let l = c .before .before .before .before .before .before .before .before .before .before .loop in
+    let t = turn (c .before .before .before .before .before .before .before .before) in
+    let s = start t in
+    let l = t .before .loop in
     let r = c .before .before .before .before .put-run in
     let high = c .before .before .before .before .before .before .before .before .least .ensures in
     let low : l .low < 24 = omega (arith, c .before .before .before .before .before .before .before .before .before .loop-test .taken, c .before .before .before .before .before .before .before .before .before .before .before .top-of .ensures .0) in (
       omega (arith, low, high),
-      r .kept .1 .1 .1 .1 .1 .1 .1 .1 .0 ∙ l .inv .1,
-      r .kept .1 .1 .1 .1 .1 .1 .1 .1 .1 .0 ∙ l .inv .2,
-      rows-more _ _ _ _ low (low-edges _ _ (s .pre .0 .0)) high (l .inv .3),
-      r .ensures,
+      r .kept .1 .1 .1 .1 .1 .1 .1 .0 ∙ l .inv .1,
+      r .kept .1 .1 .1 .1 .1 .1 .1 .1 .0 ∙ l .inv .2,
+      rows-more _ _ _ _ _ low (low-edges _ _ (s .pre .0 .0)) high (r .ensures .0) (l .inv .3),
+      r .ensures .1,
     )
 
 same-length : tie.Need-same-length Inv-loop μ-loop
@@ -104,8 +110,8 @@ returns c =
     let lag = lagAt (now (a .lab)) in
     let in-rows = l .inv .3 .to-24 in
     let top : c .before .before .top-of .result ≤ l .low = omega arith in (
-      owes-all net lag (now (a .id)) _ (l .due) (l .begin) (l .low) (l .rows) (l .n) (l .inv .4) 12288 (s .pre .0 .2) (from-node _ _ (s .pre .0 .0)) (l .inv .0) (omega (arith, in-rows, l .inv .2)) (omega (arith, l .inv .1)),
-      dues-all net lag (now (a .id)) _ (l .due) (l .begin) (l .low) (l .rows) (l .n) (l .inv .4) (c .before .before .before .edges-along .ensures)
+      owes-all net lag (now (a .id)) _ (l .due) (l .begin) (l .low) (l .rows) _ (l .inv .4) 12288 (s .pre .0 .2) (from-node _ _ (s .pre .0 .0)) (l .inv .0) (omega (arith, in-rows, l .inv .2)) (omega (arith, l .inv .1)),
+      dues-all net lag (now (a .id)) _ (l .due) (l .begin) (l .low) (l .rows) _ (l .inv .4) (c .before .before .before .edges-along .ensures)
           (λ e h. omega (arith, top, c .before .before .top-of .ensures .1 (at (net .from) e) (from-node _ _ (s .pre .0 .0) e h))),
     )
 
@@ -126,7 +132,6 @@ dues-of-spec =
     least-requires
     slice-aggregate-put-run
     put-run-requires
-    add-rows
     loop-less
     loop-again
     same-length

@@ -7,8 +7,8 @@ use mathlib.Core.List.{List}
 use lib.ListN.{length, length-set}
 use borrow.Author.Needs.{needs}
 use Rattle.graph.specs.Columns.{at}
+use Rattle.graph.proofs.Fills.{fill-with}
 use Rattle.gates.specs.inner.Gates.{Reckons}
-use Rattle.gates.proofs.Row.{fill-with}
 use Rattle.gates.proofs.truths.put_truths.Statement.{statement}
 use Rattle.gates.proofs.truths.put_truths.Tie as tie
 

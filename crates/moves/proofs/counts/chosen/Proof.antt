@@ -9,7 +9,8 @@ use Rattle.theory.specs.Move.{sum}
 use Rattle.graph.specs.Columns.{at}
 use Rattle.graph.proofs.Fills.{fill-more}
 use Rattle.moves.specs.inner.Labels.{chosenAt}
-use Rattle.moves.proofs.Labels.{to-node, low-edge, sum-more, base-none, sum-none, chosen-is}
+use Rattle.moves.proofs.Labels.{to-node, low-edge, base-none, chosen-is}
+use Rattle.theory.proofs.numbers.Sums.{sum-none, sum-more}
 use Rattle.moves.proofs.counts.chosen.Statement.{statement}
 use Rattle.moves.proofs.counts.chosen.Tie as tie
 

@@ -4,7 +4,7 @@ use native.Mathlib.Omega.{arith}
 use denote.Ref.{now}
 use borrow.Author.Needs.{needs}
 use Rattle.graph.specs.Columns.{at}
-use Rattle.moves.proofs.Labels.{all-more}
+use borrow.Author.Count.{below-more}
 use Rattle.moves.proofs.counts.too_wide.Statement.{statement}
 use Rattle.moves.proofs.counts.too_wide.Tie as tie
 
@@ -33,7 +33,7 @@ loop-less : tie.Need-loop-less Inv-loop μ-loop
 loop-less c = search needs
 
 loop-again : tie.Need-loop-again Inv-loop μ-loop
-loop-again c = (omega arith, all-more (λ i. at (now (c .before .before .before .before .args .counts)) i ≤ 32) (c .before .before .before .loop .e) (c .before .before .before .loop .inv .1) (omega arith))
+loop-again c = (omega arith, below-more (λ i. at (now (c .before .before .before .before .args .counts)) i ≤ 32) (c .before .before .before .loop .e) (c .before .before .before .loop .inv .1) (omega arith))
 
 returns-2 : tie.Need-returns-2 Inv-loop μ-loop
 returns-2 c = record { inside = omega arith; low = λ i h. c .before .loop .inv .1 i (omega arith); wide = λ h. absurd (let z : ⊥ = omega arith in z) }

@@ -1,6 +1,5 @@
 -- `netlist::judging::fan_fault` meets its contract. The loop's invariant: all nodes below v keep rule 5.
 use Prim.Native.Nat.{_-_, _≤_}
-use mathlib.Core.Path.{refl}
 use native.Mathlib.Omega.{arith}
 use borrow.Author.Count.{below-more}
 use borrow.Author.Needs.{needs}
@@ -8,8 +7,7 @@ use borrow.Author.Tests.{not-true, not-false}
 use Rattle.graph.specs.inner.Laid.{Told}
 use Rattle.netlist.specs.Net.{graphOf}
 use Rattle.netlist.specs.Read.{FanInFits, All}
-use Rattle.netlist.specs.inner.Stages.{none}
-use Rattle.netlist.proofs.Lowest.{few, laid, fan-test, told-yes, told-no, sought-lowest}
+use Rattle.netlist.proofs.Lowest.{few, laid, fan-test, told-yes, told-no, sought-lowest, sought-none}
 use Rattle.netlist.proofs.judging.fan_fault.Statement.{statement}
 use Rattle.netlist.proofs.judging.fan_fault.Tie as tie
 
@@ -65,7 +63,7 @@ loop-again : tie.Need-loop-again Inv-loop μ-loop
 loop-again c = (omega arith, below-more _ _ (c .before .before .before .before .loop .inv .1) (told-yes (c .before .fan-fits .result) (told (c .before)) (not-false _ (c .if1 .left))))
 
 returns-2 : tie.Need-returns-2 Inv-loop μ-loop
-returns-2 c = none (λ v h. c .before .loop .inv .1 v (omega arith)) refl
+returns-2 c = sought-none (λ v h. c .before .loop .inv .1 v (omega arith))
 
 pub fan-fault-spec : {M : Type 1} → statement M
 fan-fault-spec =

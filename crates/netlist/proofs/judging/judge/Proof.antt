@@ -2,10 +2,10 @@
 use mathlib.Core.Path.{refl}
 use native.Mathlib.Omega.{arith}
 use borrow.Author.Needs.{needs}
-use Rattle.netlist.specs.Read.{six}
+use Rattle.netlist.specs.Order.{here, past}
 use Rattle.netlist.proofs.Lowest.{laid, told-yes, told-no}
 use Rattle.netlist.proofs.Fits.{head-fits}
-use Rattle.netlist.proofs.Answered.{five-stop, five-all, whole-end}
+use Rattle.netlist.proofs.Answered.{sought-stop, sought-past}
 use Rattle.netlist.proofs.judging.judge.Statement.{statement}
 use Rattle.netlist.proofs.judging.judge.Tie as tie
 
@@ -19,7 +19,7 @@ enum-told-2 : tie.Need-enum-told-2
 enum-told-2 c = search needs
 
 returns : tie.Need-returns
-returns c = five-stop _ _ (c .enum-told2 .given .1) (c .before .before .fan-fault .ensures)
+returns c = here (sought-stop _ (c .enum-told2 .given .1) (c .before .before .fan-fault .ensures))
 
 cast-nodes : tie.Need-cast-nodes
 cast-nodes c = search needs
@@ -33,7 +33,7 @@ looped-requires c κs = let n = c .before .before .before .before .before .befor
 returns-2 : tie.Need-returns-2
 returns-2 c =
     let n = c .before .before .before .before .before .before .before .before .before .before .before .before .args .t1 in
-    six (five-all n _ (c .before .before .before .before .before .before .before .before .before .enum-told .given .1) (c .before .before .before .before .before .before .before .before .before .before .before .fan-fault .ensures)) (told-yes _ (c .before .looped .ensures (n .kind)) (c .if1 .taken)) refl
+    past (sought-past _ (c .before .before .before .before .before .before .before .before .before .enum-told .given .1) (c .before .before .before .before .before .before .before .before .before .before .before .fan-fault .ensures)) (here (told-yes _ (c .before .looped .ensures (n .kind)) (c .if1 .taken), refl))
 
 reach-fault-requires : tie.Need-reach-fault-requires
 reach-fault-requires c κs = search needs
@@ -41,7 +41,7 @@ reach-fault-requires c κs = search needs
 returns-3 : tie.Need-returns-3
 returns-3 c =
     let n = c .before .before .before .before .before .before .before .before .before .before .before .before .before .args .t1 in
-    whole-end n _ (five-all n _ (c .before .before .before .before .before .before .before .before .before .before .enum-told .given .1) (c .before .before .before .before .before .before .before .before .before .before .before .before .fan-fault .ensures)) (told-no _ (c .before .before .looped .ensures (n .kind)) (c .before .if1 .left)) (c .reach-fault .ensures)
+    past (sought-past _ (c .before .before .before .before .before .before .before .before .before .before .enum-told .given .1) (c .before .before .before .before .before .before .before .before .before .before .before .before .fan-fault .ensures)) (past (λ x g. told-no _ (c .before .before .looped .ensures (n .kind)) (c .before .if1 .left) (g .0)) (c .reach-fault .ensures))
 
 pub judge-spec : {M : Type 1} → statement M
 judge-spec =

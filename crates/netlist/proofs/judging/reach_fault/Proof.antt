@@ -1,6 +1,6 @@
 -- `netlist::judging::reach_fault` meets its contract. The loop's invariant: all nodes below v have both marks.
 use Prim.Native.Nat.{ℕ, _-_, _<_, _≤_}
-use mathlib.Core.Path.{_≡_, refl}
+use mathlib.Core.Path.{_≡_}
 use native.Mathlib.Omega.{arith}
 use borrow.Author.Count.{below-more}
 use borrow.Author.Needs.{needs}
@@ -10,9 +10,8 @@ use Rattle.graph.specs.Columns.{at}
 use Rattle.graph.specs.inner.Laid.{reverse, From, Told}
 use Rattle.netlist.specs.Net.{graphOf}
 use Rattle.netlist.specs.Read.{InReach, All}
-use Rattle.netlist.specs.inner.Stages.{none}
 use Rattle.netlist.proofs.Run.{fit-wired}
-use Rattle.netlist.proofs.Lowest.{few, laid, joined-yes, unfed, unused, sought-lowest}
+use Rattle.netlist.proofs.Lowest.{few, laid, joined-yes, unfed, unused, sought-lowest, sought-none}
 use Rattle.netlist.proofs.judging.reach_fault.Statement.{statement}
 use Rattle.netlist.proofs.judging.reach_fault.Tie as tie
 
@@ -103,7 +102,7 @@ loop-again : tie.Need-loop-again Inv-loop μ-loop
 loop-again c = (omega arith, below-more _ _ (c .before .before .before .loop .inv .1) (c .before .if1 .left, c .if2 .left))
 
 returns-3 : tie.Need-returns-3 Inv-loop μ-loop
-returns-3 c = none (λ v h. all (c .before) (search needs) v (omega arith)) refl
+returns-3 c = sought-none (λ v h. all (c .before) (search needs) v (omega arith))
 
 pub reach-fault-spec : {M : Type 1} → statement M
 reach-fault-spec =

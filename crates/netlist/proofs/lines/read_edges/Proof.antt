@@ -1,11 +1,11 @@
 -- `netlist::lines::read_edges` meets its contract. The loop's invariant: the lines from the cursor on, with the record filled so far, come to what all the
 -- edge lines come to; the head is kept.
-use Prim.Native.Nat.{ℕ, suc, _+_, _-_, _*_, _≤_}
-use mathlib.Core.Path.{_≡_, refl, ap, ap₂, sym, _∙_}
+use Prim.Native.Nat.{ℕ, suc, _+_, _-_, _≤_}
+use mathlib.Core.Path.{_≡_, refl, ap, sym, _∙_}
 use mathlib.Core.Bool.{Bool, true, false}
 use mathlib.Core.List.{List}
 use native.Mathlib.Omega.{arith}
-use lib.ListN.{drop, getD}
+use lib.ListN.{drop}
 use borrow.Author.Needs.{needs}
 use borrow.Author.Tests.{not-true, not-false}
 use Rattle.netlist.specs.declared.Netlist.{Netlist}
@@ -44,20 +44,27 @@ module _ (c : tie.In-loop Inv-loop μ-loop) where
   left : edgesFrom (suc (net₀ .edges - (e + 1))) e (2 + net₀ .nodes + e) (drop at t) net ≡ edgesFrom (net₀ .edges) 0 (2 + net₀ .nodes) (drop (c .before .before .before .args .at0) t) net₀
   left = let q : net₀ .edges - e ≡ suc (net₀ .edges - (e + 1)) = omega arith in rw q at (c .before .loop .inv .3)
 
--- The line of this turn, and its numbers.
-line : (c : tie.Else1 Inv-loop μ-loop) → Opened 3 9 (at (c .before .before .before)) (t (c .before .before .before)) (c .before .before .frame-at .result .bytes)
-line c = opened 3 9 (at (c .before .before .before)) (t (c .before .before .before)) _ (c .before .before .frame-at .ensures) (omega arith) (not-false _ (c .if1 .left))
+-- Places of a turn: where it began, from where its line was opened; that, from where its numbers were taken, and from where they were tested.
+abbrev turn-of : tie.Else1 Inv-loop μ-loop → tie.In-loop Inv-loop μ-loop
+turn-of c = c .before .before .before
+
+abbrev opened-at : tie.After-edge-row Inv-loop μ-loop → tie.Else1 Inv-loop μ-loop
+opened-at c = c .before .before
+
+abbrev taken : tie.After-edge-fits Inv-loop μ-loop → tie.After-edge-row Inv-loop μ-loop
+taken c = c .before .before .before .before
+
+-- The line of this turn.
+line : (c : tie.Else1 Inv-loop μ-loop) → Opened 3 9 (at (turn-of c)) (t (turn-of c)) (c .before .before .frame-at .result .bytes)
+line c = opened 3 9 (at (turn-of c)) (t (turn-of c)) _ (c .before .before .frame-at .ensures) (omega arith) (not-false _ (c .if1 .left))
 
 module _ (c : tie.After-edge-fits Inv-loop μ-loop) where
-  abbrev bytes : List ℕ
-  bytes = c .before .before .before .before .before .before .before .before .before .before .before .before .frame-at .result .bytes
+  abbrev turn : tie.In-loop Inv-loop μ-loop
+  turn = turn-of (opened-at (taken c))
 
-  start : c .before .before .before .before .quad .result ≡ (getD bytes 5 0 * 256 + getD bytes 6 0) * 65536 + (getD bytes 7 0 * 256 + getD bytes 8 0)
-  start = c .before .before .before .before .quad .ensures ∙ ap₂ (λ x y. x * 65536 + y) (c .before .before .before .before .before .before .pair3 .ensures) (c .before .before .before .before .before .pair4 .ensures)
-
-  fits : (b : Bool) → c .edge-fits .result ≡ b
-      → edgeFits (net (c .before .before .before .before .before .before .before .before .before .before .before .before .before) .nodes) (graphOf (net (c .before .before .before .before .before .before .before .before .before .before .before .before .before)) .kind) (c .before .before .before .before .before .before .before .before .pair .result) (c .before .before .before .before .before .before .before .pair2 .result) (getD bytes 4 0) (c .before .before .before .before .quad .result) ≡ b
-  fits b q = ap (λ n. edgeFits n (graphOf (net (c .before .before .before .before .before .before .before .before .before .before .before .before .before)) .kind) (c .before .before .before .before .before .before .before .before .pair .result) (c .before .before .before .before .before .before .before .pair2 .result) (getD bytes 4 0) (c .before .before .before .before .quad .result)) (c .before .before .before .before .before .before .before .before .before .before .before .before .before .before .loop .inv .1) ∙ sym (c .edge-fits .ensures) ∙ q
+  -- What the test of the line's numbers found.
+  fits : (b : Bool) → c .edge-fits .result ≡ b → let r = taken c .edge-row .result in edgeFits (net turn .nodes) (graphOf (net turn) .kind) (r .from) (r .to) (r .count) (r .start) ≡ b
+  fits b q = let r = taken c .edge-row .result in ap (λ n. edgeFits n (graphOf (net turn) .kind) (r .from) (r .to) (r .count) (r .start)) (turn .before .loop .inv .1) ∙ sym (c .edge-fits .ensures) ∙ q
 
 cast-edges : tie.Need-cast-edges Inv-loop μ-loop
 cast-edges c = search needs
@@ -92,47 +99,8 @@ returns c =
       empty-sizes (c .fault .ensures .1),
     )
 
-array-read-pair : tie.Need-array-read-pair Inv-loop μ-loop
-array-read-pair c = search needs
-
-array-read-pair-2 : tie.Need-array-read-pair-2 Inv-loop μ-loop
-array-read-pair-2 c = search needs
-
-pair-requires : tie.Need-pair-requires Inv-loop μ-loop
-pair-requires c κs = search needs
-
-array-read-pair-3 : tie.Need-array-read-pair-3 Inv-loop μ-loop
-array-read-pair-3 c = search needs
-
-array-read-pair-4 : tie.Need-array-read-pair-4 Inv-loop μ-loop
-array-read-pair-4 c = search needs
-
-pair-requires-2 : tie.Need-pair-requires-2 Inv-loop μ-loop
-pair-requires-2 c κs = search needs
-
-array-read-pair-5 : tie.Need-array-read-pair-5 Inv-loop μ-loop
-array-read-pair-5 c = search needs
-
-array-read-pair-6 : tie.Need-array-read-pair-6 Inv-loop μ-loop
-array-read-pair-6 c = search needs
-
-pair-requires-3 : tie.Need-pair-requires-3 Inv-loop μ-loop
-pair-requires-3 c κs = search needs
-
-array-read-pair-7 : tie.Need-array-read-pair-7 Inv-loop μ-loop
-array-read-pair-7 c = search needs
-
-array-read-pair-8 : tie.Need-array-read-pair-8 Inv-loop μ-loop
-array-read-pair-8 c = search needs
-
-pair-requires-4 : tie.Need-pair-requires-4 Inv-loop μ-loop
-pair-requires-4 c κs = search needs
-
-quad-requires : tie.Need-quad-requires Inv-loop μ-loop
-quad-requires c κs = search needs
-
-array-read-edge-fits : tie.Need-array-read-edge-fits Inv-loop μ-loop
-array-read-edge-fits c = search needs
+edge-row-requires : tie.Need-edge-row-requires Inv-loop μ-loop
+edge-row-requires c κs = search needs
 
 edge-fits-requires : tie.Need-edge-fits-requires Inv-loop μ-loop
 edge-fits-requires c κs = search needs
@@ -145,12 +113,12 @@ fault-requires-2 c κs = search needs
 
 returns-2 : tie.Need-returns-2 Inv-loop μ-loop
 returns-2 c =
-    let o = c .before .before .before .before .before .before .before .before .before .before .before .before .before .before .before in
     let f = c .before .before in
+    let o = turn f in
+    let r = taken f .edge-row .ensures in
     let wrong = fits f false (not-true _ (c .before .if2 .taken)) in (
       goes-fault _ (c .fault2 .ensures .0) (c .fault2 .ensures .1)
-          (sym (left o)
-          ∙ edge-wrong (t o) (at o) _ (e o) (2 + net₀ o .nodes) (net o) _ (line (c .before .before .before .before .before .before .before .before .before .before .before .before)) _ _ _ _ (c .before .before .before .before .before .before .before .before .before .before .pair .ensures) (c .before .before .before .before .before .before .before .before .before .pair2 .ensures) refl (start f) wrong),
+          (sym (left o) ∙ edge-wrong (t o) (at o) _ (e o) (2 + net₀ o .nodes) (net o) _ (line (opened-at (taken f))) _ _ _ _ (r .0 .0) (r .0 .1) (r .0 .2) (r .1) wrong),
       empty-sizes (c .fault2 .ensures .1),
     )
 
@@ -166,9 +134,6 @@ mul-net-2 c = search needs
 element-write-net-2 : tie.Need-element-write-net-2 Inv-loop μ-loop
 element-write-net-2 c = search needs
 
-array-read-net : tie.Need-array-read-net Inv-loop μ-loop
-array-read-net c = search needs
-
 element-write-net-3 : tie.Need-element-write-net-3 Inv-loop μ-loop
 element-write-net-3 c = search needs
 
@@ -179,7 +144,7 @@ element-write-net-4 : tie.Need-element-write-net-4 Inv-loop μ-loop
 element-write-net-4 c = search needs
 
 add-at : tie.Need-add-at Inv-loop μ-loop
-add-at c = omega (arith, line (c .before .before .before .before .before .before .before .before .before .before .before) .room, c .before .before .before .before .before .before .before .before .before .before .before .before .before .before .before .before .before .good)
+add-at c = omega (arith, line (opened-at (taken (c .before))) .room, turn (c .before) .before .before .before .good)
 
 add-e : tie.Need-add-e Inv-loop μ-loop
 add-e c = search needs
@@ -189,15 +154,15 @@ loop-less c = search needs
 
 loop-again : tie.Need-loop-again Inv-loop μ-loop
 loop-again c =
-    let o = c .before .before .before .before .before .before .before .before .before .before .before .before .before .before in
     let f = c .before in
-    let inv = c .before .before .before .before .before .before .before .before .before .before .before .before .before .before .before .loop .inv in
+    let o = turn f in
+    let r = taken f .edge-row .ensures in
+    let inv = o .before .loop .inv in
     let good = fits f true (not-false _ (c .if2 .left)) in (
       omega arith,
       inv .1,
       inv .2,
-      sym (edge-good (t o) (at o) (net₀ o .edges - (e o + 1)) (e o) (2 + net₀ o .nodes) (net o) _ (line (c .before .before .before .before .before .before .before .before .before .before .before)) _ _ _ _ (c .before .before .before .before .before .before .before .before .before .pair .ensures) (c .before .before .before .before .before .before .before .before .pair2 .ensures)
-          refl (start f) good)
+      sym (edge-good (t o) (at o) (net₀ o .edges - (e o + 1)) (e o) (2 + net₀ o .nodes) (net o) _ (line (opened-at (taken f))) _ _ _ _ (r .0 .0) (r .0 .1) (r .0 .2) (r .1) good)
           ∙ left o,
     )
 
@@ -224,20 +189,7 @@ read-edges-spec =
     add-fault
     fault-requires
     returns
-    array-read-pair
-    array-read-pair-2
-    pair-requires
-    array-read-pair-3
-    array-read-pair-4
-    pair-requires-2
-    array-read-pair-5
-    array-read-pair-6
-    pair-requires-3
-    array-read-pair-7
-    array-read-pair-8
-    pair-requires-4
-    quad-requires
-    array-read-edge-fits
+    edge-row-requires
     edge-fits-requires
     add-fault-2
     fault-requires-2
@@ -246,7 +198,6 @@ read-edges-spec =
     element-write-net
     mul-net-2
     element-write-net-2
-    array-read-net
     element-write-net-3
     mul-net-3
     element-write-net-4

@@ -1,27 +1,33 @@
 -- `search::choices::evaluate` meets its contract: the cells below i are evaluated, under whatever choice those below `start` were.
 use Prim.Native.Nat.{_+_, _-_, _≤_, _<_}
-use mathlib.Core.Path.{sym, _∙_}
+use mathlib.Core.Path.{_≡_, refl, _∙_}
 use native.Mathlib.Omega.{arith}
+use lib.ListN.{length, length-set}
 use denote.Ref.{now}
 use Rattle.graph.specs.Columns.{at}
-use Rattle.search.specs.inner.States.{Valued, GoesOn}
+use Rattle.search.specs.inner.Program.{programOf}
+use Rattle.search.specs.inner.States.{evaluatorOf, Valued, GoesOn}
 use Rattle.search.proofs.States.{truth-next, valued-seen, valued-value, valued-more}
 use borrow.Author.Needs.{needs}
 use Rattle.search.proofs.choices.evaluate.Statement.{statement}
 use Rattle.search.proofs.choices.evaluate.Tie as tie
 
 abbrev Inv-loop : tie.InvT-loop
-Inv-loop truth index first operand start end sig₀ i₀ sig i = (start ≤ i) × GoesOn truth index first operand end start sig₀ i sig
+Inv-loop truth index first operand start end sig₀ i₀ sig i = (start ≤ i) × GoesOn (evaluatorOf truth index first operand) end start sig₀ i sig × (length sig ≡ length sig₀)
 
 abbrev μ-loop : tie.MeasureT-loop
 μ-loop truth index first operand start end sig₀ i₀ sig i = end - i
 
+abbrev start : tie.At-loop Inv-loop μ-loop → tie.Start Inv-loop μ-loop
+start c = c .before .before .before .before .before .before
+
 -- The signals are those of the choice that was asked for.
-held : (c : tie.At-loop Inv-loop μ-loop) → Valued (c .before .before .before .before .before .before .pre .cells) (c .before .before .before .before .before .before .pre .k) (c .before .before .before .before .before .before .pre .kind) (now (c .before .before .before .before .before .before .args .first)) (now (c .before .before .before .before .before .before .args .operand)) (c .before .before .before .before .before .before .pre .choice) (c .loop .i) (c .loop .sig)
-held c = let s = c .before .before .before .before .before .before .pre in c .loop .inv .1 (s .cells) (s .k) (s .choice) (s .kind) (s .ready) (s .within) (s .valued)
+held : (c : tie.At-loop Inv-loop μ-loop) → let s = start c in
+    Valued (s .pre .cells) (s .pre .k) (programOf (s .pre .kind) (now (s .args .first)) (now (s .args .operand))) (s .pre .choice) (c .loop .i) (c .loop .sig)
+held c = let s = start c .pre in c .loop .inv .1 (s .cells) (s .k) (s .choice) (s .kind) (s .ready) (s .within) (s .valued)
 
 loop-holds : tie.Need-loop-holds Inv-loop μ-loop
-loop-holds c = (omega arith, λ cells k n kind r h v. v)
+loop-holds c = (omega arith, λ cells k n kind r h v. v, refl)
 
 mul-lo : tie.Need-mul-lo Inv-loop μ-loop
 mul-lo c = search needs
@@ -52,14 +58,17 @@ shared-slice-read-value c = search needs
 
 value-requires : tie.Need-value-requires Inv-loop μ-loop
 value-requires c κs =
-    let s = c .before .before .before .before .before .before .before .before .before .before .before .pre in
-    (s .ready .table, valued-seen (s .ready) (held (c .before .before .before .before .before)) (omega (arith, s .within, c .before .before .before .before .loop-test .taken)))
+    let l = c .before .before .before .before .before in
+    let s = start l .pre in
+    (s .ready .table, valued-seen (s .ready) (held l) (omega (arith, s .within, c .before .before .before .before .loop-test .taken)))
 
 add-sig : tie.Need-add-sig Inv-loop μ-loop
 add-sig c = search needs
 
 slice-write-sig : tie.Need-slice-write-sig Inv-loop μ-loop
-slice-write-sig c = omega (arith, held (c .before .before .before .before .before .before) .size, c .before .before .before .before .before .before .before .before .before .before .before .before .pre .within, c .before .before .before .before .before .before .before .before .before .before .before .before .pre .ready .program .few-cells)
+slice-write-sig c =
+    let l = c .before .before .before .before .before .before in
+    omega (arith, held l .size, start l .pre .within, start l .pre .ready .program .few-cells)
 
 add-i : tie.Need-add-i Inv-loop μ-loop
 add-i c = search needs
@@ -75,10 +84,11 @@ loop-again c =
           let w = l .inv .1 cells k n kind r h v in
           let q : l .i < cells = omega (arith, c .before .before .before .before .before .loop-test .taken) in
           valued-more r w q (valued-value r w q (c .value .ensures .1 (at kind (l .i)) (truth-next r q))),
+      length-set (l .sig) (32 + l .i) _ ∙ l .inv .2,
     )
 
 same-length : tie.Need-same-length Inv-loop μ-loop
-same-length c = held (c .before) .size ∙ sym (c .before .before .before .before .before .before .before .pre .valued .size)
+same-length c = c .before .loop .inv .2
 
 returns : tie.Need-returns Inv-loop μ-loop
 returns c = record { after = c .before .loop .inv .0; reached = c .loop-test .left; carried = c .before .loop .inv .1 }

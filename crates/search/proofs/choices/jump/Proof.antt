@@ -11,9 +11,6 @@ use Rattle.search.proofs.choices.jump.Tie as tie
 advance-requires : tie.Need-advance-requires
 advance-requires c κs = search needs
 
-cast-next-after : tie.Need-cast-next-after
-cast-next-after c = search needs
-
 sub-next-after : tie.Need-sub-next-after
 sub-next-after c = search needs
 
@@ -26,11 +23,11 @@ next-after-requires c κs =
 mul-t8 : tie.Need-mul-t8
 mul-t8 c = search needs
 
-shared-slice-read-t15 : tie.Need-shared-slice-read-t15
-shared-slice-read-t15 c = search needs
+shared-slice-read-t16 : tie.Need-shared-slice-read-t16
+shared-slice-read-t16 c = search needs
 
-cast-t16 : tie.Need-cast-t16
-cast-t16 c = omega (arith, c .shared-slice-known3 .given (c .before .before .before .before .advance .result))
+cast-t9 : tie.Need-cast-t9
+cast-t9 c = omega (arith, c .shared-slice-known3 .given (c .before .before .before .before .advance .result))
 
 mul-t17 : tie.Need-mul-t17
 mul-t17 c = search needs
@@ -51,11 +48,11 @@ returns c =
     let e = c .before .before .next-after .ensures in
     record {
       next = e;
-      bits = λ y h. a .bits (s .args .choice) (s .pre .0 .0) (s .pre .1) y h ∙ ap (λ n. digit (s .args .k) n y) (sym e);
+      bits = λ y h. a .bits (s .args .choice) (s .pre .0 .0) (s .pre .0 .3) y h ∙ ap (λ n. digit (s .args .k) n y) (sym e);
       cells = a .cells;
       level = c .before .before .before .before .before .advance .result;
       most = a .most;
-      agree = a .agree (s .args .choice) (s .pre .0 .0) (s .pre .1) ∙ ap (λ n. n / 2 ^ (suc (s .args .k) - c .before .before .before .before .before .advance .result)) (sym e);
+      agree = a .agree (s .args .choice) (s .pre .0 .0) (s .pre .0 .3) ∙ ap (λ n. n / 2 ^ (suc (s .args .k) - c .before .before .before .before .before .advance .result)) (sym e);
       cell-at = refl;
       due-at = refl;
     }
@@ -65,12 +62,11 @@ jump-spec =
     tie.close
     (tie.spec
     advance-requires
-    cast-next-after
     sub-next-after
     next-after-requires
     mul-t8
-    shared-slice-read-t15
-    cast-t16
+    shared-slice-read-t16
+    cast-t9
     mul-t17
     shared-slice-read-t19
     cast-t20

@@ -7,29 +7,30 @@ use lib.ListN.{length, length-set}
 use denote.Ref.{now}
 use Rattle.graph.specs.Columns.{at}
 use Rattle.search.specs.inner.Rows.{Level}
-use Rattle.search.proofs.Putting.{climb, fill-each}
+use Rattle.search.proofs.Putting.{climb}
+use Rattle.graph.proofs.Fills.{fill-with}
 use borrow.Author.Needs.{needs}
 use Rattle.search.proofs.rows.levels_of.Statement.{statement}
 use Rattle.search.proofs.rows.levels_of.Tie as tie
 
 abbrev Inv-loop2 : tie.InvT-loop2
-Inv-loop2 levels many level₀ m end i₀ level i = (at levels m ≤ i) × (i ≤ end) × (length level ≡ 12288) × ((j : ℕ) → j < i → Level levels many j (at level j))
+Inv-loop2 levels many level₀ m end i₀ level i = (at levels m ≤ i) × (i ≤ end) × (length level ≡ length level₀) × ((j : ℕ) → j < i → Level levels many j (at level j))
 
 abbrev μ-loop2 : tie.MeasureT-loop2
 μ-loop2 levels many level₀ m end i₀ level i = end - i
 
 abbrev Inv-loop : tie.InvT-loop
-Inv-loop levels many level₀ m₀ level m = (m ≤ many) × (length level ≡ 12288) × ((j : ℕ) → j < at levels m → Level levels many j (at level j))
+Inv-loop levels many level₀ m₀ level m = (m ≤ many) × (length level ≡ length level₀) × ((j : ℕ) → j < at levels m → Level levels many j (at level j))
 
 abbrev μ-loop : tie.MeasureT-loop
 μ-loop levels many level₀ m₀ level m = many - m
 
 -- A cell of level m has a place.
-room : (c : tie.In-loop2 Inv-loop2 μ-loop2 Inv-loop μ-loop) → c .before .loop2 .i < 12288
+room : (c : tie.In-loop2 Inv-loop2 μ-loop2 Inv-loop μ-loop) → c .before .loop2 .i < length (c .before .loop2 .level)
 room c =
     let s = c .before .before .before .before .before .before in
-    let m = c .before .before .before .before .before .loop .m in
-    omega (arith, climb (now (s .args .levels)) (s .args .many) (s .pre .1) (m + 1) (s .args .many) (omega arith) (omega arith))
+    let l = c .before .before .before .before .before .loop in
+    omega (arith, climb (now (s .args .levels)) (s .args .many) (s .pre .1) (l .m + 1) (s .args .many) (omega arith) (omega arith), s .pre .0, l .inv .1, c .before .loop2 .inv .2)
 
 loop-holds : tie.Need-loop-holds Inv-loop2 μ-loop2 Inv-loop μ-loop
 loop-holds c = (omega arith, refl, λ j h. absurd (let z : ⊥ = omega arith in z))
@@ -59,13 +60,13 @@ loop2-holds : tie.Need-loop2-holds Inv-loop2 μ-loop2 Inv-loop μ-loop
 loop2-holds c =
     let s = c .before .before .before .before in
     let l = c .before .before .before .loop in
-    (omega arith, omega (arith, s .pre .1 (l .m) (c .before .before .loop-test .taken), ap (at (now (s .args .levels))) (add-one (l .m))), l .inv .1, l .inv .2)
+    (omega arith, omega (arith, s .pre .1 (l .m) (c .before .before .loop-test .taken), ap (at (now (s .args .levels))) (add-one (l .m))), refl, l .inv .2)
 
 cast-level : tie.Need-cast-level Inv-loop2 μ-loop2 Inv-loop μ-loop
 cast-level c = search needs
 
-array-write-level : tie.Need-array-write-level Inv-loop2 μ-loop2 Inv-loop μ-loop
-array-write-level c = room c
+slice-write-level : tie.Need-slice-write-level Inv-loop2 μ-loop2 Inv-loop μ-loop
+slice-write-level c = room c
 
 add-i : tie.Need-add-i Inv-loop2 μ-loop2 Inv-loop μ-loop
 add-i c = omega (arith, room c)
@@ -81,7 +82,7 @@ loop2-again c =
     let levels = now (s .args .levels) in
     let e = ap (at levels) (add-one m) in
     let q : Level levels (s .args .many) (l .i) m = record { from = l .inv .0; below = omega arith; few = c .before .before .before .before .loop-test .taken } in
-    (omega arith, omega arith, length-set (l .level) (l .i) m ∙ l .inv .2, fill-each (Level levels (s .args .many)) (l .level) (l .i) m (omega (arith, room c, l .inv .2)) q (l .inv .3))
+    (omega arith, omega arith, length-set (l .level) (l .i) m ∙ l .inv .2, fill-with (Level levels (s .args .many)) (l .level) (l .i) m (room c) q (l .inv .3))
 
 add-m : tie.Need-add-m Inv-loop2 μ-loop2 Inv-loop μ-loop
 add-m c = search needs
@@ -92,7 +93,10 @@ loop-less c = search needs
 loop-again : tie.Need-loop-again Inv-loop2 μ-loop2 Inv-loop μ-loop
 loop-again c =
     let l = c .before .loop2 in
-    (omega arith, l .inv .2, λ j h. l .inv .3 j (omega arith))
+    (omega arith, l .inv .2 ∙ c .before .before .before .before .before .loop .inv .1, λ j h. l .inv .3 j (omega arith))
+
+same-length : tie.Need-same-length Inv-loop2 μ-loop2 Inv-loop μ-loop
+same-length c = c .before .loop .inv .1
 
 returns : tie.Need-returns Inv-loop2 μ-loop2 Inv-loop μ-loop
 returns c =
@@ -118,11 +122,12 @@ levels-of-spec =
     cast-i
     loop2-holds
     cast-level
-    array-write-level
+    slice-write-level
     add-i
     loop2-less
     loop2-again
     add-m
     loop-less
     loop-again
+    same-length
     returns)

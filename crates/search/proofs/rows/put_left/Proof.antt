@@ -6,7 +6,7 @@ use mathlib.Core.List.{List}
 use lib.ListN.{length, length-set}
 use denote.Ref.{now}
 use Rattle.graph.specs.Columns.{at}
-use Rattle.search.proofs.Putting.{fill-each}
+use Rattle.graph.proofs.Fills.{fill-with}
 use borrow.Author.Needs.{needs}
 use Rattle.search.proofs.rows.put_left.Statement.{statement}
 use Rattle.search.proofs.rows.put_left.Tie as tie
@@ -47,7 +47,7 @@ loop-again c =
       omega arith,
       omega arith,
       simp length-set (l .inv .2),
-      fill-each (Counts (a .start) (a .end) (now (a .left))) (l .left) (l .d) _ (omega arith) (record { row = λ h. omega arith; kept = λ h. absurd (let z : ⊥ = omega arith in z) }) (l .inv .3),
+      fill-with (Counts (a .start) (a .end) (now (a .left))) (l .left) (l .d) _ (omega arith) (record { row = λ h. omega arith; kept = λ h. absurd (let z : ⊥ = omega arith in z) }) (l .inv .3),
     )
 
 same-length : tie.Need-same-length Inv-loop μ-loop

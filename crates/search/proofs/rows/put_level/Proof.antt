@@ -18,6 +18,13 @@ Inv-loop due begin edges level m row₀ left₀ start n₀ e₀ row left n e = R
 abbrev μ-loop : tie.MeasureT-loop
 μ-loop due begin edges level m row₀ left₀ start n₀ e₀ row left n e = edges - e
 
+-- Places: the start, and the turn of the call.
+abbrev start : tie.At-loop Inv-loop μ-loop → tie.Start Inv-loop μ-loop
+start c = c .before .before .before .before .before .before
+
+abbrev turn : tie.After-put-row Inv-loop μ-loop → tie.In-loop Inv-loop μ-loop
+turn c = c .before .before .before .before
+
 loop-holds : tie.Need-loop-holds Inv-loop μ-loop
 loop-holds c =
     let s = c .before .before .before .before .before in
@@ -46,7 +53,7 @@ cast-hi c = omega (arith, c .shared-slice-known5 .given (c .before .before .befo
 
 put-row-requires : tie.Need-put-row-requires Inv-loop μ-loop
 put-row-requires c κs =
-    let s = c .before .before .before .before .before .before .before .before .before .before in
+    let s = start (c .before .before .before .before) in
     let l = c .before .before .before .before .loop in
     let t = c .before .before .before .loop-test .taken in
     let o = s .pre .0 in
@@ -55,7 +62,7 @@ put-row-requires c κs =
 
 put-left-requires : tie.Need-put-left-requires Inv-loop μ-loop
 put-left-requires c κs =
-    let s = c .before .before .before .before .before .before .before .before .before .before .before .before .before .before in
+    let s = start (turn (c .before .before .before) .before) in
     let l = c .before .before .before .before .before .before .before .before .loop in
     let t = c .before .before .before .before .before .before .before .loop-test .taken in
     let e = c .before .before .before .put-row .ensures .1 in
@@ -70,9 +77,10 @@ loop-less c = search needs
 
 loop-again : tie.Need-loop-again Inv-loop μ-loop
 loop-again c =
-    let s = c .before .before .before .before .before .before .before .before .before .before .before .before .before .before .before .before .before in
-    let l = c .before .before .before .before .before .before .before .before .before .before .before .loop in
-    let t = c .before .before .before .before .before .before .before .before .before .before .loop-test .taken in
+    let k = turn (c .before .before .before .before .before .before) in
+    let s = start (k .before) in
+    let l = k .before .loop in
+    let t = k .loop-test .taken in
     let a = c .before .before .before .before .before .before .put-row .ensures in
     let b = c .before .before .put-left .ensures in
     rowing-turn (l .inv) (length (now (s .args .level))) (s .pre .0) t (a .0) (a .1) (b .0) (b .1) (c .before .before .put-left .kept .1 .1 .0)

@@ -2,10 +2,11 @@
 use native.Mathlib.Omega.{arith}
 use borrow.Author.Needs.{needs}
 use Rattle.graph.specs.Columns.{at}
-use Rattle.netlist.proofs.Lowest.{few, laid}
+use Rattle.netlist.proofs.Lowest.{few, kind-low, laid, fan-low}
+use Rattle.graph.proofs.Laws.{loop-kinds}
 use Rattle.netlist.proofs.Run.{fit-rows}
 use Rattle.simulate.proofs.Seen.{ins-edge, first-rises, seen-count}
-use Rattle.simulate.proofs.Plans.{loop-kinds, kind-low, fan-low, planned}
+use Rattle.simulate.proofs.Plans.{planned}
 use Rattle.simulate.proofs.plan.plan_of.Statement.{statement}
 use Rattle.simulate.proofs.plan.plan_of.Tie as tie
 

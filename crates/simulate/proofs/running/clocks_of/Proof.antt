@@ -1,14 +1,17 @@
 -- `simulate::running::clocks_of` meets its contract: after t clocks their outputs are put out, and the words are those that they left.
-use Prim.Native.Nat.{_+_, _-_, _≤_}
+use Prim.Native.Nat.{ℕ, _+_, _-_, _≤_}
 use mathlib.Core.Path.{_≡_, refl, ap, sym, subst, _∙_}
+use mathlib.Core.List.{List}
 use lib.ListN.{length}
 use lib.Seq.{length-sets}
 use Rattle.gates.specs.inner.Gates.{AllBits, evaluated}
 use Rattle.gates.proofs.Row.{evaluated-bits}
+use Rattle.netlist.specs.declared.Netlist.{Netlist}
 use Rattle.netlist.proofs.Run.{fit-rows}
+use Rattle.simulate.specs.declared.plan.Plan.{Plan}
 use Rattle.simulate.specs.Clock.{earlier, inputs, outputs}
 use Rattle.simulate.proofs.Evaluated.{Rows, plan-evaluable, plan-truths}
-use Rattle.simulate.proofs.Ran.{net-movable, bits-none, Running, running-start, vector-in, outputs-in, room-in, begun-bits, running-turn, running-end}
+use Rattle.simulate.proofs.Ran.{net-movable, bits-none, Running, running-start, turn-room, begun-bits, running-turn, running-end}
 use native.Mathlib.Omega.{arith}
 use borrow.Author.Needs.{needs}
 use Rattle.simulate.proofs.running.clocks_of.Statement.{statement}
@@ -21,6 +24,78 @@ Inv-loop clocks vectors out₀ net nodes edges inputs outputs gates node first s
 abbrev μ-loop : tie.MeasureT-loop
 μ-loop clocks vectors out₀ net nodes edges inputs outputs gates node first sees truth index words₀ sig₀ taken₀ given₀ t₀ out words sig taken given t =
     clocks - t
+
+-- Places of a turn: where the plan was made, where the function began; the turn, from where it began its clock; that, from where its nodes are evaluated;
+-- that, from where its outputs are put; that, from where its words move on.
+abbrev made : tie.In-loop Inv-loop μ-loop → tie.After-plan-of Inv-loop μ-loop
+made turn = turn .before .before .before .before .before .before .before
+
+abbrev start : tie.In-loop Inv-loop μ-loop → tie.Start Inv-loop μ-loop
+start turn = made turn .before .before .before .before .before
+
+abbrev turn-of : tie.After-enter Inv-loop μ-loop → tie.In-loop Inv-loop μ-loop
+turn-of c = c .before .before .before .before .before .before
+
+abbrev entered : tie.After-evaluate Inv-loop μ-loop → tie.After-enter Inv-loop μ-loop
+entered c = c .before .before .before .before .before .before .before .before
+
+abbrev valued-at : tie.After-put-outputs Inv-loop μ-loop → tie.After-evaluate Inv-loop μ-loop
+valued-at c = c .before .before .before .before .before .before .before
+
+abbrev put-at : tie.After-words2 Inv-loop μ-loop → tie.After-put-outputs Inv-loop μ-loop
+put-at c = c .before .before .before .before .before .before .before .before .before
+
+abbrev turn-moved : tie.After-words3 Inv-loop μ-loop → tie.In-loop Inv-loop μ-loop
+turn-moved c = turn-of (entered (valued-at (put-at (c .before .before))))
+
+-- What was lent has its rows.
+net-rows : (c : tie.Start Inv-loop μ-loop) → (length (c .args .t1 .kind) ≡ 512) × (length (c .args .t1 .from) ≡ 1024) × (length (c .args .t1 .count) ≡ 1024)
+net-rows c = (search needs, search needs, search needs)
+
+plan-rows : (c : tie.After-plan-of Inv-loop μ-loop) → Rows (c .plan-of .result)
+plan-rows c = record { node = search needs; first = search needs; sees = search needs; truth = search needs; index = search needs }
+
+module _ (turn : tie.In-loop Inv-loop μ-loop) where
+  abbrev net : Netlist
+  net = start turn .args .t1
+
+  abbrev plan : Plan
+  plan = made turn .plan-of .result
+
+  -- There is a vector left, and room for its outputs.
+  room : let l = turn .before .loop in (l .taken + inputs net ≤ length (start turn .args .vectors .now)) × (l .given + outputs net ≤ length (start turn .args .out .now)) × (l .given + outputs net ≤ length (l .out))
+  room = turn-room _ _ _ _ _ (start turn .pre) (turn .loop-test .taken) (turn .before .loop .inv)
+
+  counted : (made turn .before .before .count-kind .result ≡ inputs net) × (made turn .before .count-kind2 .result ≡ outputs net)
+  counted = (made turn .before .before .count-kind .ensures, made turn .before .count-kind2 .ensures)
+
+-- The signals that the clock begins with.
+module _ (c : tie.After-enter Inv-loop μ-loop) where
+  abbrev begun : List ℕ
+  begun = c .enter .last .1 .1 .1 .1 .1 .1 .0
+
+  begun-size : length begun ≡ 1536
+  begun-size = c .enter .kept .1 .1 .1 .1 .1 .1 .0 ∙ turn-of c .before .loop .inv .sig-size
+
+  begun-are-bits : AllBits begun
+  begun-are-bits = let turn = turn-of c in begun-bits _ _ _ _ _ (start turn .pre) (turn .loop-test .taken) (turn .before .loop .inv) _ (c .enter .ensures)
+
+-- The signals once each node of the plan is evaluated by its gate.
+module _ (c : tie.After-evaluate Inv-loop μ-loop) where
+  abbrev turn : tie.In-loop Inv-loop μ-loop
+  turn = turn-of (entered c)
+
+  abbrev sig : List ℕ
+  sig = c .evaluate .last .1 .1 .1 .1 .1 .1 .1 .0
+
+  valued : let p = plan turn in sig ≡ evaluated (net turn .kind) (p .node) (p .first) (p .sees) 0 (p .gates) (begun (entered c))
+  valued = c .evaluate .ensures (net turn .kind) (plan-truths (net turn) (plan turn) (made turn .plan-of .ensures) (start turn .pre .steppable))
+
+  valued-size : length sig ≡ 1536
+  valued-size = c .evaluate .kept .1 .1 .1 .1 .1 .1 .1 .0 ∙ begun-size (entered c)
+
+  valued-bits : AllBits sig
+  valued-bits = let p = plan turn in subst AllBits (sym valued) (evaluated-bits (net turn .kind) (p .node) (p .first) (p .sees) 0 _ (p .gates) (begun-are-bits (entered c)))
 
 cast-nodes : tie.Need-cast-nodes Inv-loop μ-loop
 cast-nodes c = search needs
@@ -46,43 +121,13 @@ slice-aggregate-enter c = sym (c .before .before .before .before .before .loop .
 slice-aggregate-enter-2 : tie.Need-slice-aggregate-enter-2 Inv-loop μ-loop
 slice-aggregate-enter-2 c = sym (c .before .before .before .before .before .before .loop .inv .sig-size)
 
--- Places of a turn: where the function began, where the plan was made; the turn, from where it began its clock; that, from where its nodes are evaluated.
-abbrev start : tie.In-loop Inv-loop μ-loop → tie.Start Inv-loop μ-loop
-start turn = turn .before .before .before .before .before .before .before .before .before .before .before .before
-
-abbrev made : tie.In-loop Inv-loop μ-loop → tie.After-plan-of Inv-loop μ-loop
-made turn = turn .before .before .before .before .before .before .before
-
-abbrev turn-of : tie.After-enter Inv-loop μ-loop → tie.In-loop Inv-loop μ-loop
-turn-of c = c .before .before .before .before .before .before
-
-abbrev entered : tie.After-evaluate Inv-loop μ-loop → tie.After-enter Inv-loop μ-loop
-entered c = c .before .before .before .before .before .before .before .before
-
-abbrev valued-at : tie.After-slice-known2 Inv-loop μ-loop → tie.After-evaluate Inv-loop μ-loop
-valued-at c = c .before .before .before .before .before .before .before .before .before .before .before .before .before .before .before
-
-net-rows : (c : tie.Start Inv-loop μ-loop) → (length (c .args .t1 .kind) ≡ 512) × (length (c .args .t1 .from) ≡ 1024) × (length (c .args .t1 .count) ≡ 1024)
-net-rows c = (search needs, search needs, search needs)
-
-plan-rows : (c : tie.After-plan-of Inv-loop μ-loop) → Rows (c .plan-of .result)
-plan-rows c = record { node = search needs; first = search needs; sees = search needs; truth = search needs; index = search needs }
-
--- There is a vector left, and room for its outputs.
-vector-room : (turn : tie.In-loop Inv-loop μ-loop) → turn .before .loop .taken + inputs (start turn .args .t1) ≤ length (start turn .args .vectors .now)
-vector-room turn = vector-in _ _ _ _ _ (start turn .pre) (turn .loop-test .taken) (turn .before .loop .inv)
-
-output-room : (turn : tie.In-loop Inv-loop μ-loop) → turn .before .loop .given + outputs (start turn .args .t1) ≤ length (start turn .args .out .now)
-output-room turn = outputs-in _ _ _ _ _ (start turn .pre) (turn .loop-test .taken) (turn .before .loop .inv)
-
 enter-requires : tie.Need-enter-requires Inv-loop μ-loop
 unfolding earlier
 enter-requires c κs =
     let turn = c .before .before .before .before .before in
-    let s = start turn in
-    let l = turn .before .loop in
-    let r = fit-rows (s .args .t1) (s .pre .steppable .fit) in
-    ((r .0, omega (arith, r .0, net-rows s .0), vector-room turn), (omega (arith, r .1, l .inv .words-size), omega (arith, r .1, l .inv .sig-size)))
+    let inv = turn .before .loop .inv in
+    let r = fit-rows (net turn) (start turn .pre .steppable .fit) in
+    ((r .0, omega (arith, r .0, net-rows (start turn) .0), room turn .0), (omega (arith, r .1, inv .words-size), omega (arith, r .1, inv .sig-size)))
 
 slice-aggregate-evaluate : tie.Need-slice-aggregate-evaluate Inv-loop μ-loop
 slice-aggregate-evaluate c = search needs
@@ -102,88 +147,61 @@ slice-aggregate-evaluate-5 c = sym (plan-rows (made (turn-of (c .before .before 
 slice-aggregate-evaluate-6 : tie.Need-slice-aggregate-evaluate-6 Inv-loop μ-loop
 slice-aggregate-evaluate-6 c = search needs
 
--- The signals that the clock begins with.
-begun-size : (c : tie.After-enter Inv-loop μ-loop) → length (c .enter .last .1 .1 .1 .1 .1 .1 .0) ≡ 1536
-begun-size c = c .enter .kept .1 .1 .1 .1 .1 .1 .0 ∙ c .before .before .before .before .before .before .before .loop .inv .sig-size
-
 evaluate-requires : tie.Need-evaluate-requires Inv-loop μ-loop
 evaluate-requires c κs =
     let e = c .before .before .before .before .before .before .before in
     let turn = turn-of e in
-    let s = start turn in
-    plan-evaluable (s .args .t1) (made turn .plan-of .result) (made turn .plan-of .ensures) (s .pre .steppable) (plan-rows (made turn)) _ (begun-size e)
-    (begun-bits _ _ _ _ _ (s .pre) (turn .loop-test .taken) (turn .before .loop .inv) _ (e .enter .ensures))
+    plan-evaluable (net turn) (plan turn) (made turn .plan-of .ensures) (start turn .pre .steppable) (plan-rows (made turn)) _ (begun-size e) (begun-are-bits e)
 
-slice-aggregate-leave : tie.Need-slice-aggregate-leave Inv-loop μ-loop
-slice-aggregate-leave c = search needs
+slice-aggregate-put-outputs : tie.Need-slice-aggregate-put-outputs Inv-loop μ-loop
+slice-aggregate-put-outputs c = search needs
 
-slice-aggregate-leave-2 : tie.Need-slice-aggregate-leave-2 Inv-loop μ-loop
-slice-aggregate-leave-2 c = sym (turn-of (entered (c .before .before .before .before .before .before .before .before .before .before)) .before .loop .inv .words-size)
-
--- Each node of the plan is evaluated by its gate.
-valued : (c : tie.After-evaluate Inv-loop μ-loop)
-    → let p = made (turn-of (entered c)) .plan-of .result in
-    c .evaluate .last .1 .1 .1 .1 .1 .1 .1 .0 ≡ evaluated (start (turn-of (entered c)) .args .t1 .kind) (p .node) (p .first) (p .sees) 0 (p .gates) (entered c .enter .last .1 .1 .1 .1 .1 .1 .0)
-valued c =
-    let turn = turn-of (entered c) in
-    let s = start turn in
-    c .evaluate .ensures (s .args .t1 .kind) (plan-truths (s .args .t1) (made turn .plan-of .result) (made turn .plan-of .ensures) (s .pre .steppable))
-
-valued-size : (c : tie.After-evaluate Inv-loop μ-loop) → length (c .evaluate .last .1 .1 .1 .1 .1 .1 .1 .0) ≡ 1536
-valued-size c = c .evaluate .kept .1 .1 .1 .1 .1 .1 .1 .0 ∙ begun-size (entered c)
-
-leave-requires : tie.Need-leave-requires Inv-loop μ-loop
+put-outputs-requires : tie.Need-put-outputs-requires Inv-loop μ-loop
 unfolding earlier
-leave-requires c κs =
-    let v = c .before .before .before .before .before .before .before .before .before .before .before in
-    let e = entered v in
-    let turn = turn-of e in
-    let s = start turn in
-    let l = turn .before .loop in
-    let net = s .args .t1 in
-    let p = made turn .plan-of .result in
-    let r = fit-rows net (s .pre .steppable .fit) in (
-      (omega (arith, r .0, net-rows s .0), omega (arith, r .0, valued-size v), room-in _ _ _ _ _ (s .pre) (turn .loop-test .taken) (l .inv)),
-      (
-        net-movable net (s .pre .steppable) (net-rows s .1, net-rows s .2) (l .words) (v .evaluate .last .1 .1 .1 .1 .1 .1 .1 .0) (l .inv .words-size) (valued-size v) (l .inv .fits),
-        subst AllBits (sym (valued v)) (evaluated-bits (net .kind) (p .node) (p .first) (p .sees) 0 _ (p .gates) (begun-bits _ _ _ _ _ (s .pre) (turn .loop-test .taken) (l .inv) _ (e .enter .ensures))),
-      ),
-    )
+put-outputs-requires c κs =
+    let v = c .before .before .before .before .before .before in
+    let s = start (turn v) in
+    let r = fit-rows (net (turn v)) (s .pre .steppable .fit) in
+    (omega (arith, r .0, net-rows s .0), omega (arith, r .0, valued-size v), room (turn v) .2)
+
+slice-aggregate-shift : tie.Need-slice-aggregate-shift Inv-loop μ-loop
+slice-aggregate-shift c = search needs
+
+slice-aggregate-shift-2 : tie.Need-slice-aggregate-shift-2 Inv-loop μ-loop
+slice-aggregate-shift-2 c = sym (turn (valued-at (put-at c)) .before .loop .inv .words-size)
+
+shift-requires : tie.Need-shift-requires Inv-loop μ-loop
+shift-requires c κs =
+    let v = valued-at (put-at c) in
+    let s = start (turn v) in
+    let l = turn v .before .loop in
+    (net-movable (net (turn v)) (s .pre .steppable) (net-rows s .1, net-rows s .2) (l .words) (sig v) (l .inv .words-size) (valued-size v) (l .inv .fits), valued-bits v)
 
 add-taken : tie.Need-add-taken Inv-loop μ-loop
-add-taken c =
-    let turn = turn-of (entered (valued-at c)) in
-    omega (arith, vector-room turn, turn .before .before .before .before .before .before .before .before .before .count-kind .ensures, start turn .good)
+add-taken c = let turn = turn-moved c in omega (arith, room turn .0, counted turn .0, start turn .good)
 
 add-given : tie.Need-add-given Inv-loop μ-loop
-add-given c =
-    let turn = turn-of (entered (valued-at c)) in
-    omega (arith, output-room turn, turn .before .before .before .before .before .before .before .before .count-kind2 .ensures, start turn .good)
+add-given c = let turn = turn-moved c in omega (arith, room turn .1, counted turn .1, start turn .good)
 
 add-t : tie.Need-add-t Inv-loop μ-loop
-add-t c =
-    let turn = turn-of (entered (valued-at c)) in
-    omega (arith, turn .loop-test .taken, start turn .fits)
+add-t c = omega (arith, turn-moved c .loop-test .taken, start (turn-moved c) .fits)
 
 loop-less : tie.Need-loop-less Inv-loop μ-loop
-loop-less c =
-    let turn = turn-of (entered (valued-at c)) in
-    omega (arith, turn .loop-test .taken)
+loop-less c = omega (arith, turn-moved c .loop-test .taken)
 
 loop-again : tie.Need-loop-again Inv-loop μ-loop
 loop-again c =
-    let v = valued-at c in
-    let e = entered v in
-    let turn = turn-of e in
-    let l = turn .before .loop in
-    running-turn _ _ _ _ _ (start turn .pre) (turn .loop-test .taken) (l .inv) _ (made turn .plan-of .ensures) _ _
-    (ap (λ k. l .taken + k) (turn .before .before .before .before .before .before .before .before .before .count-kind .ensures)) (ap (λ k. l .given + k) (turn .before .before .before .before .before .before .before .before .count-kind2 .ensures)) _ record {
-      begun = e .enter .last .1 .1 .1 .1 .1 .1 .0;
-      size = begun-size e;
-      begins = e .enter .ensures;
+    let put = put-at (c .before .before) in
+    let v = valued-at put in
+    let l = turn v .before .loop in
+    running-turn _ _ _ _ _ (start (turn v) .pre) (turn v .loop-test .taken) (l .inv) _ (made (turn v) .plan-of .ensures) _ _
+    (ap (λ k. l .taken + k) (counted (turn v) .0)) (ap (λ k. l .given + k) (counted (turn v) .1)) _ record {
+      begun = begun (entered v);
+      size = begun-size (entered v);
+      begins = entered v .enter .ensures;
       evaluates = valued v;
-      puts = c .before .before .before .leave .ensures .0;
-      moves = c .before .before .before .leave .ensures .1;
+      puts = put .put-outputs .ensures;
+      moves = c .before .shift .ensures;
     }
 
 same-length : tie.Need-same-length Inv-loop μ-loop
@@ -214,9 +232,11 @@ clocks-of-spec =
     slice-aggregate-evaluate-5
     slice-aggregate-evaluate-6
     evaluate-requires
-    slice-aggregate-leave
-    slice-aggregate-leave-2
-    leave-requires
+    slice-aggregate-put-outputs
+    put-outputs-requires
+    slice-aggregate-shift
+    slice-aggregate-shift-2
+    shift-requires
     add-taken
     add-given
     add-t

@@ -6,8 +6,9 @@ use lib.ListN.{length, set, length-set}
 use lib.Seq.{getD-set-same}
 use denote.Ref.{now}
 use Rattle.graph.specs.Columns.{at}
-use Rattle.solve.specs.inner.Numbers.{Extended, Waiting}
-use Rattle.solve.proofs.Numbering.{numbered-room, numbered-ready, extended-same, extended-one, waiting-one, waiting-more, waiting-less}
+use Rattle.solve.specs.inner.Numbers.{layersOf, Extended, Waiting}
+use Rattle.solve.proofs.Numbering.{numbered-room, numbered-ready, extended-same, extended-one}
+use Rattle.solve.proofs.Levelling.{waiting-one, waiting-more, waiting-less}
 use native.Mathlib.Omega.{arith}
 use borrow.Author.Needs.{needs}
 use Rattle.solve.proofs.numbers.number_cell.Statement.{statement}
@@ -15,7 +16,7 @@ use Rattle.solve.proofs.numbers.number_cell.Tie as tie
 
 abbrev Inv-loop : tie.InvT-loop
 Inv-loop first operand span cells i n stack₀ id₀ code₀ next₀ h₀ stack id code next h =
-    Extended cells (at span i) n next first operand span code₀ id code × Waiting (at span i) h i span id stack × (h ≡ 0 → at id i < next)
+    Extended (layersOf cells first operand span) (at span i) n next code₀ id code × Waiting (at span i) h i span id stack × (h ≡ 0 → at id i < next)
     × (length stack ≡ length stack₀) × (length id ≡ length id₀) × (length code ≡ length code₀)
 
 abbrev μ-loop : tie.MeasureT-loop

@@ -2,7 +2,7 @@
 use Prim.Native.Nat.{_-_}
 use mathlib.Core.Path.{_≡_, refl, _∙_}
 use lib.ListN.{length}
-use Rattle.solve.specs.inner.Numbers.{Extended}
+use Rattle.solve.specs.inner.Numbers.{layersOf, Extended}
 use Rattle.solve.proofs.Numbering.{extended-same, extended-more}
 use native.Mathlib.Omega.{arith}
 use borrow.Author.Needs.{needs}
@@ -10,14 +10,21 @@ use Rattle.solve.proofs.numbers.number_due.Statement.{statement}
 use Rattle.solve.proofs.numbers.number_due.Tie as tie
 
 abbrev Inv-loop : tie.InvT-loop
-Inv-loop first operand span cells m due total n stack₀ id₀ code₀ next₀ x₀ stack id code next x =
-    Extended cells m n next first operand span code₀ id code × (length stack ≡ length stack₀) × (length id ≡ length id₀) × (length code ≡ length code₀)
+Inv-loop first operand span cells m due n stack₀ id₀ code₀ next₀ x₀ stack id code next x =
+    Extended (layersOf cells first operand span) m n next code₀ id code × (length stack ≡ length stack₀) × (length id ≡ length id₀) × (length code ≡ length code₀)
 
 abbrev μ-loop : tie.MeasureT-loop
-μ-loop first operand span cells m due total n stack₀ id₀ code₀ next₀ x₀ stack id code next x = total - x
+μ-loop first operand span cells m due n stack₀ id₀ code₀ next₀ x₀ stack id code next x = length due - x
+
+-- Places: the start, and the turn of the call.
+abbrev start : tie.At-loop Inv-loop μ-loop → tie.Start Inv-loop μ-loop
+start c = c .before .before .before .before .before .before .before .before
+
+abbrev turn : tie.After-number-if Inv-loop μ-loop → tie.In-loop Inv-loop μ-loop
+turn c = c .before .before .before .before .before
 
 loop-holds : tie.Need-loop-holds Inv-loop μ-loop
-loop-holds c = (extended-same (c .before .before .before .before .before .before .before .pre .1), refl, refl, refl)
+loop-holds c = (extended-same (c .before .before .before .before .before .before .before .pre .1 .1), refl, refl, refl)
 
 mul-i : tie.Need-mul-i Inv-loop μ-loop
 mul-i c = search needs
@@ -30,9 +37,9 @@ cast-i c = omega (arith, c .shared-slice-known5 .given (c .before .before .loop 
 
 number-if-requires : tie.Need-number-if-requires Inv-loop μ-loop
 number-if-requires c κs =
-    let s = c .before .before .before .before .before .before .before .before .before .before .before .before .before in
+    let s = start (c .before .before .before .before .before) in
     let l = c .before .before .before .before .before .loop in
-    ((s .pre .0 .0, omega (arith, s .pre .0 .1, l .inv .1), s .pre .0 .3 (l .x) (c .before .before .before .before .loop-test .taken)), l .inv .0 .numbered)
+    ((s .pre .0 .0, omega (arith, s .pre .0 .1, l .inv .1), s .pre .1 .0 (l .x) (c .before .before .before .before .loop-test .taken)), l .inv .0 .numbered)
 
 add-x : tie.Need-add-x Inv-loop μ-loop
 add-x c = search needs
@@ -42,7 +49,7 @@ loop-less c = search needs
 
 loop-again : tie.Need-loop-again Inv-loop μ-loop
 loop-again c =
-    let l = c .before .before .before .before .before .before .before .before .before .before .before .before .loop in
+    let l = turn (c .before .before .before .before .before .before) .before .loop in
     let r = c .before .before .before .before .before .before .number-if in
     (extended-more (l .inv .0) (r .ensures .0), r .kept .1 .1 .1 .1 .1 .1 .1 .0 ∙ l .inv .1, r .kept .1 .1 .1 .1 .1 .1 .1 .1 .0 ∙ l .inv .2, r .kept .1 .1 .1 .1 .1 .1 .1 .1 .1 .0 ∙ l .inv .3)
 

@@ -3,7 +3,7 @@ use mathlib.Core.Path.{subst, sym}
 use mathlib.Core.Logic.{⊎-elim}
 use borrow.Author.Tests.{eqb-true, eqb-false}
 use denote.Ref.{now}
-use Rattle.solve.specs.inner.Numbers.{Numbered, Extended}
+use Rattle.solve.specs.inner.Numbers.{layersOf, Numbered, Extended}
 use Rattle.solve.proofs.Numbering.{numbered-given, extended-same}
 use borrow.Author.Needs.{needs}
 use Rattle.solve.proofs.numbers.number_if.Statement.{statement}
@@ -21,12 +21,15 @@ mul-if2 c = search needs
 slice-read-if2 : tie.Need-slice-read-if2
 slice-read-if2 c = search needs
 
+abbrev start : tie.After-number-cell → tie.Start
+start c = c .before .before .before .before .before .before .before .before .before .before .before .before .before .before
+
 number-cell-requires : tie.Need-number-cell-requires
 number-cell-requires c κs =
     let s = c .before .before .before .before .before .before .before .before .before .before .before .before .before in
     let a = s .args in (
       (s .pre .0 .0, s .pre .0 .1, s .pre .0 .2, eqb-true _ _ (c .before .before .before .if2 .taken)),
-      subst (λ m. Numbered (a .cells) m (a .n) (now (a .first)) (now (a .operand)) (now (a .span)) (now (a .id)) (now (a .code)))
+      subst (λ m. Numbered (layersOf (a .cells) (now (a .first)) (now (a .operand)) (now (a .span))) m (a .n) (now (a .id)) (now (a .code)))
           (sym (c .before .before .before .before .before .if1 .taken)) (s .pre .1),
     )
 
@@ -41,10 +44,11 @@ same-length-3 c = search needs
 
 returns : tie.Need-returns
 returns c =
-    let a = c .before .before .before .before .before .before .before .before .before .before .before .before .before .before .before .before .before .before .before .before .args in
-    let r = c .before .before .before .before .before .before .number-cell in (
-      subst (λ m. Extended (a .cells) m (a .n) (r .result) (now (a .first)) (now (a .operand)) (now (a .span)) (now (a .code)) (r .last .1 .1 .1 .1 .1 .1 .1 .0) (r .last .1 .1 .1 .1 .1 .1 .1 .1 .0))
-          (c .before .before .before .before .before .before .before .before .before .before .before .before .if1 .taken) (r .ensures .0),
+    let d = c .before .before .before .before .before .before in
+    let a = start d .args in
+    let r = d .number-cell in (
+      subst (λ m. Extended (layersOf (a .cells) (now (a .first)) (now (a .operand)) (now (a .span))) m (a .n) (r .result) (now (a .code)) (r .last .1 .1 .1 .1 .1 .1 .1 .0) (r .last .1 .1 .1 .1 .1 .1 .1 .1 .0))
+          (d .before .before .before .before .before .before .if1 .taken) (r .ensures .0),
       λ e. r .ensures .1,
     )
 

@@ -5,14 +5,18 @@ use borrow.Author.Needs.{needs}
 use Rattle.solve.proofs.numbers.number_level.Statement.{statement}
 use Rattle.solve.proofs.numbers.number_level.Tie as tie
 
+abbrev start : tie.After-number-due → tie.Start
+start c = c .before .before .before .before .before .before .before .before .before .before .before
+
 number-due-requires : tie.Need-number-due-requires
 number-due-requires c κs = search needs
 
 number-rest-requires : tie.Need-number-rest-requires
 number-rest-requires c κs =
-    let s = c .before .before .before .before .before .before .before .before .before .before .before .before .before .before .before .before .before .before .before .before in
-    let d = c .before .before .before .before .before .before .before .before .before .number-due in
-    ((s .pre .0 .0, omega (arith, d .kept .1 .1 .1 .1 .1 .1 .1 .1 .0, s .pre .0 .1)), d .ensures .numbered)
+    let numbered = c .before .before .before .before .before .before .before .before .before in
+    let s = start numbered in
+    let d = numbered .number-due in
+    ((s .pre .0 .0, omega (arith, d .kept .1 .1 .1 .1 .1 .1 .1 .0, s .pre .0 .1)), d .ensures .numbered)
 
 same-length : tie.Need-same-length
 same-length c = search needs

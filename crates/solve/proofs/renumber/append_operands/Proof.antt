@@ -5,8 +5,9 @@ use native.Mathlib.Omega.{arith}
 use borrow.Author.Needs.{needs}
 use lib.ListN.{length, length-set}
 use denote.Ref.{now}
-use Rattle.solve.proofs.Renumbering.{appended-none, appended-more}
-use Rattle.solve.specs.inner.Numbers.{Copied}
+use Rattle.graph.specs.Columns.{at}
+use Rattle.graph.proofs.Fills.{appended-none, appended-more}
+use Rattle.solve.specs.inner.Numbers.{renumbered, Copied}
 use Rattle.solve.proofs.renumber.append_operands.Statement.{statement}
 use Rattle.solve.proofs.renumber.append_operands.Tie as tie
 
@@ -18,7 +19,7 @@ abbrev μ-loop : tie.MeasureT-loop
 μ-loop operand lo hi id start operands₀ n₀ j₀ operands n j = hi - j
 
 loop-holds : tie.Need-loop-holds Inv-loop μ-loop
-loop-holds c = (omega arith, omega arith, omega arith, refl, appended-none)
+loop-holds c = (omega arith, omega arith, omega arith, refl, appended-none _ _ _ _)
 
 mul-renumbered : tie.Need-mul-renumbered Inv-loop μ-loop
 mul-renumbered c = search needs
@@ -55,7 +56,8 @@ loop-again c =
       omega arith,
       omega arith,
       length-set (l .operands) (l .n) (c .renumbered .result) ∙ l .inv .3,
-      appended-more (l .inv .0) (l .inv .2) (omega (arith, s .pre .0, l .inv .3)) (c .renumbered .ensures) (l .inv .4),
+      appended-more (λ j. renumbered (now (s .args .id)) (at (now (s .args .operand)) j)) _ (l .operands) (s .args .lo) (l .j) (s .args .start) (l .n) (c .renumbered .result)
+          (l .inv .4) (l .inv .0) (l .inv .2) (omega (arith, s .pre .0, l .inv .3)) (c .renumbered .ensures),
     )
 
 same-length : tie.Need-same-length Inv-loop μ-loop

@@ -6,7 +6,8 @@ use lib.ListN.{length, length-set}
 use lib.Seq.{getD-set-same}
 use denote.Ref.{now}
 use Rattle.graph.specs.Columns.{at}
-use Rattle.solve.specs.inner.Numbers.{ins, Renumbered}
+use Rattle.search.specs.inner.Program.{programOf}
+use Rattle.solve.specs.inner.Numbers.{ins, ProgramRenumbered}
 use Rattle.solve.proofs.Renumbering.{renumbered-none, renumbered-room, renumbered-turn, append-ready}
 use native.Mathlib.Omega.{arith}
 use borrow.Author.Needs.{needs}
@@ -15,7 +16,7 @@ use Rattle.solve.proofs.renumber.renumber_cells.Tie as tie
 
 abbrev Inv-loop : tie.InvT-loop
 Inv-loop kind first operand cells id code kinds₀ firsts₀ operands₀ n₀ q₀ kinds firsts operands n q =
-    (q ≤ cells) × (n ≡ at firsts q) × Renumbered q kind first operand id code kinds firsts operands
+    (q ≤ cells) × (n ≡ at firsts q) × ProgramRenumbered q (programOf kind first operand) id code (programOf kinds firsts operands)
     × (length kinds ≡ length kinds₀) × (length firsts ≡ length firsts₀) × (length operands ≡ length operands₀)
 
 abbrev μ-loop : tie.MeasureT-loop
@@ -140,7 +141,7 @@ returns c =
     let a = start (c .before) .args in
     let l = c .before .loop in
     let z : l .q ≡ a .cells = omega arith in
-    subst (λ n. Renumbered n (now (a .kind)) (now (a .first)) (now (a .operand)) (now (a .id)) (now (a .code)) (l .kinds) (l .firsts) (l .operands)) z (l .inv .2)
+    subst (λ n. ProgramRenumbered n (programOf (now (a .kind)) (now (a .first)) (now (a .operand))) (now (a .id)) (now (a .code)) (programOf (l .kinds) (l .firsts) (l .operands))) z (l .inv .2)
 
 pub renumber-cells-spec : {M : Type 1} → statement M
 renumber-cells-spec =

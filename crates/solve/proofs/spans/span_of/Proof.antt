@@ -17,7 +17,7 @@ Inv-loop operand start end span most₀ j₀ most j =
 abbrev μ-loop : tie.MeasureT-loop
 μ-loop operand start end span most₀ j₀ most j = end - j
 
--- After the test: no less than before and than what the operand hangs on, and one of the two.
+-- After the test: no less than before and than what the operand depends on, and one of the two.
 larger : (c : tie.Joined1 Inv-loop μ-loop) → (c .before .before .before .before .loop .most ≤ c .if1 .most) × (c .before .reach-of .result ≤ c .if1 .most)
     × ((b : ℕ) → c .before .before .before .before .loop .most ≤ b → c .before .reach-of .result ≤ b → c .if1 .most ≤ b)
 larger c = ⊎-elim (λ w. (omega arith, omega arith, λ b x y. omega arith)) (λ w. (omega arith, omega arith, λ b x y. omega arith)) (c .if1 .came)

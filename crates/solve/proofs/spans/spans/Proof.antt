@@ -1,8 +1,8 @@
 -- `solve::spans::spans` meets its contract: the cells before i have their spans, and `spans-more` is a turn.
-use Prim.Native.Nat.{ℕ, _+_, _-_, _≤_}
-use mathlib.Core.Path.{_≡_, sym, subst, _∙_}
+use Prim.Native.Nat.{_+_, _-_, _≤_}
+use mathlib.Core.Path.{_≡_, refl, subst, _∙_}
 use native.Mathlib.Omega.{arith}
-use lib.ListN.{length, length-set, length-replicate}
+use lib.ListN.{length, length-set}
 use denote.Ref.{now}
 use Rattle.solve.specs.inner.Parts.{Spans}
 use Rattle.solve.proofs.Spanning.{spans-none, spans-read, spans-more}
@@ -11,13 +11,13 @@ use Rattle.solve.proofs.spans.spans.Statement.{statement}
 use Rattle.solve.proofs.spans.spans.Tie as tie
 
 abbrev Inv-loop : tie.InvT-loop
-Inv-loop first operand cells k span₀ i₀ span i = (i ≤ cells) × (length span ≡ 12288) × Spans k first operand span i
+Inv-loop first operand cells k span₀ i₀ span i = (i ≤ cells) × (length span ≡ length span₀) × Spans k first operand span i
 
 abbrev μ-loop : tie.MeasureT-loop
 μ-loop first operand cells k span₀ i₀ span i = cells - i
 
 loop-holds : tie.Need-loop-holds Inv-loop μ-loop
-loop-holds c = (omega arith, length-replicate {A = ℕ} 12288 0, spans-none _ _ _ _)
+loop-holds c = (omega arith, refl, spans-none _ _ _ _)
 
 mul-span-of : tie.Need-mul-span-of Inv-loop μ-loop
 mul-span-of c = search needs
@@ -40,21 +40,20 @@ shared-slice-read-span-of-2 c = search needs
 cast-span-of-2 : tie.Need-cast-span-of-2 Inv-loop μ-loop
 cast-span-of-2 c = omega (arith, c .shared-slice-known4 .given (c .before .before .before .loop .i + 1))
 
-slice-aggregate-span-of : tie.Need-slice-aggregate-span-of Inv-loop μ-loop
-slice-aggregate-span-of c = sym (c .before .before .before .before .loop .inv .1)
-
 span-of-requires : tie.Need-span-of-requires Inv-loop μ-loop
 span-of-requires c κs =
-    let s = c .before .before .before .before .before .before .before in
+    let s = c .before .before .before .before .before .before .before .before in
     let l = c .before .before .before .before .loop in
     spans-read (s .args .cells) (now (s .args .first)) (now (s .args .operand)) (l .span) (l .i) (s .pre .0) (c .before .before .before .loop-test .taken)
-    (omega (arith, s .pre .0 .few-cells, l .inv .1))
+    (omega (arith, s .pre .2, l .inv .1))
 
 mul-span : tie.Need-mul-span Inv-loop μ-loop
 mul-span c = search needs
 
-array-write-span : tie.Need-array-write-span Inv-loop μ-loop
-array-write-span c = search needs
+slice-write-span : tie.Need-slice-write-span Inv-loop μ-loop
+slice-write-span c =
+    let l = c .before .before .before .before in
+    omega (arith, l .loop-test .taken, l .before .loop .inv .1, c .before .before .before .before .before .before .before .before .before .pre .2)
 
 add-i : tie.Need-add-i Inv-loop μ-loop
 add-i c = search needs
@@ -64,17 +63,20 @@ loop-less c = search needs
 
 loop-again : tie.Need-loop-again Inv-loop μ-loop
 loop-again c =
-    let s = c .before .before .before .before .before .before .before .before in
+    let s = c .before .before .before .before .before .before .before .before .before in
     let l = c .before .before .before .before .before .loop in (
       omega arith,
       length-set (l .span) (l .i) (c .span-of .result) ∙ l .inv .1,
       spans-more (s .args .cells) (s .args .k) (now (s .args .first)) (now (s .args .operand)) (l .span) (l .i) (c .span-of .result) (s .pre .0) (s .pre .1) (l .inv .2)
-          (c .before .before .before .before .loop-test .taken) (omega (arith, s .pre .0 .few-cells, l .inv .1)) (c .span-of .ensures),
+          (c .before .before .before .before .loop-test .taken) (omega (arith, s .pre .2, l .inv .1)) (c .span-of .ensures),
     )
+
+same-length : tie.Need-same-length Inv-loop μ-loop
+same-length c = c .before .loop .inv .1
 
 returns : tie.Need-returns Inv-loop μ-loop
 returns c =
-    let a = c .before .before .before .before .args in
+    let a = c .before .before .before .before .before .args in
     let l = c .before .loop in
     subst (λ n. Spans (a .k) (now (a .first)) (now (a .operand)) (l .span) n) (let z : l .i ≡ a .cells = omega arith in z) (l .inv .2)
 
@@ -92,11 +94,11 @@ spans-spec =
     mul-span-of-2
     shared-slice-read-span-of-2
     cast-span-of-2
-    slice-aggregate-span-of
     span-of-requires
     mul-span
-    array-write-span
+    slice-write-span
     add-i
     loop-less
     loop-again
+    same-length
     returns)

@@ -1,4 +1,4 @@
--- `starts::ring::advance` meets its contract: the cells below place k are a row further.
+-- `starts::ring::advance` meets its contract: the slots below place k are a row further.
 use Prim.Native.Nat.{_+_, _-_, _%_, _≤_}
 use mathlib.Core.Path.{_≡_, refl, ap, _∙_}
 use native.Mathlib.Omega.{arith}
@@ -12,28 +12,28 @@ use Rattle.starts.proofs.ring.advance.Statement.{statement}
 use Rattle.starts.proofs.ring.advance.Tie as tie
 
 abbrev Inv-loop : tie.InvT-loop
-Inv-loop edges cells₀ k₀ cells k = (k ≤ edges) × (length cells ≡ length cells₀) × Filled (λ j. (at cells₀ j % 32768 + 512) % 32768) (at cells₀) k cells
+Inv-loop edges slots₀ k₀ slots k = (k ≤ edges) × (length slots ≡ length slots₀) × Filled (λ j. (at slots₀ j % 32768 + 512) % 32768) (at slots₀) k slots
 
 abbrev μ-loop : tie.MeasureT-loop
-μ-loop edges cells₀ k₀ cells k = edges - k
+μ-loop edges slots₀ k₀ slots k = edges - k
 
 loop-holds : tie.Need-loop-holds Inv-loop μ-loop
-loop-holds c = let l = now (c .args .cells) in (omega arith, refl, filled-none (λ j. (at l j % 32768 + 512) % 32768) (at l) l (λ j. refl))
+loop-holds c = let l = now (c .args .slots) in (omega arith, refl, filled-none (λ j. (at l j % 32768 + 512) % 32768) (at l) l (λ j. refl))
 
-mul-cells : tie.Need-mul-cells Inv-loop μ-loop
-mul-cells c = search needs
+mul-slots : tie.Need-mul-slots Inv-loop μ-loop
+mul-slots c = search needs
 
-slice-read-cells : tie.Need-slice-read-cells Inv-loop μ-loop
-slice-read-cells c = search needs
+slice-read-slots : tie.Need-slice-read-slots Inv-loop μ-loop
+slice-read-slots c = search needs
 
-add-cells : tie.Need-add-cells Inv-loop μ-loop
-add-cells c = search needs
+add-slots : tie.Need-add-slots Inv-loop μ-loop
+add-slots c = search needs
 
-mul-cells-2 : tie.Need-mul-cells-2 Inv-loop μ-loop
-mul-cells-2 c = search needs
+mul-slots-2 : tie.Need-mul-slots-2 Inv-loop μ-loop
+mul-slots-2 c = search needs
 
-slice-write-cells : tie.Need-slice-write-cells Inv-loop μ-loop
-slice-write-cells c = search needs
+slice-write-slots : tie.Need-slice-write-slots Inv-loop μ-loop
+slice-write-slots c = search needs
 
 add-k : tie.Need-add-k Inv-loop μ-loop
 add-k c = search needs
@@ -43,11 +43,11 @@ loop-less c = search needs
 
 loop-again : tie.Need-loop-again Inv-loop μ-loop
 loop-again c =
-    let a = now (c .before .before .before .args .cells) in
+    let a = now (c .before .before .before .args .slots) in
     let l = c .before .before .loop in (
       omega arith,
-      length-set (l .cells) (l .k) ((at (l .cells) (l .k) % 32768 + 512) % 32768) ∙ l .inv .1,
-      filled-more (λ j. (at a j % 32768 + 512) % 32768) (at a) (l .cells) (l .k) ((at (l .cells) (l .k) % 32768 + 512) % 32768) (omega arith) (ap (λ x. (x % 32768 + 512) % 32768) (l .inv .2 .past (l .k) (omega arith))) (l .inv .2),
+      length-set (l .slots) (l .k) ((at (l .slots) (l .k) % 32768 + 512) % 32768) ∙ l .inv .1,
+      filled-more (λ j. (at a j % 32768 + 512) % 32768) (at a) (l .slots) (l .k) ((at (l .slots) (l .k) % 32768 + 512) % 32768) (omega arith) (ap (λ x. (x % 32768 + 512) % 32768) (l .inv .2 .past (l .k) (omega arith))) (l .inv .2),
     )
 
 same-length : tie.Need-same-length Inv-loop μ-loop
@@ -63,11 +63,11 @@ advance-spec =
     Inv-loop
     μ-loop
     loop-holds
-    mul-cells
-    slice-read-cells
-    add-cells
-    mul-cells-2
-    slice-write-cells
+    mul-slots
+    slice-read-slots
+    add-slots
+    mul-slots-2
+    slice-write-slots
     add-k
     loop-less
     loop-again

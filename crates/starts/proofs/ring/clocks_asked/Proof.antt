@@ -5,7 +5,7 @@ use native.Mathlib.Omega.{arith}
 use denote.Ref.{now}
 use borrow.Author.Needs.{needs}
 use Rattle.graph.specs.Columns.{at}
-use Rattle.moves.proofs.Labels.{all-more}
+use borrow.Author.Count.{below-more}
 use Rattle.starts.proofs.ring.clocks_asked.Statement.{statement}
 use Rattle.starts.proofs.ring.clocks_asked.Tie as tie
 
@@ -44,8 +44,8 @@ loop-again c =
     let lab = now (c .before .before .before .before .args .lab) in
     let l = c .before .before .before .loop in
     ⊎-elim
-    (λ w. (omega arith, omega arith, all-more (λ u. 16384 ≤ c .if1 .most + at lab u) (l .v) (λ u h. omega (arith, l .inv .2 u h)) (omega arith)))
-    (λ w. (omega arith, omega arith, all-more (λ u. 16384 ≤ c .if1 .most + at lab u) (l .v) (λ u h. omega (arith, l .inv .2 u h)) (omega arith)))
+    (λ w. (omega arith, omega arith, below-more (λ u. 16384 ≤ c .if1 .most + at lab u) (l .v) (λ u h. omega (arith, l .inv .2 u h)) (omega arith)))
+    (λ w. (omega arith, omega arith, below-more (λ u. 16384 ≤ c .if1 .most + at lab u) (l .v) (λ u h. omega (arith, l .inv .2 u h)) (omega arith)))
     (c .if1 .came)
 
 returns : tie.Need-returns Inv-loop μ-loop

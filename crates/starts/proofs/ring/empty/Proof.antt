@@ -1,7 +1,7 @@
 -- `starts::ring::empty` meets its contract.
 use mathlib.Core.Path.{refl}
 use borrow.Author.Needs.{needs}
-use Rattle.starts.proofs.Cells.{empty-is}
+use Rattle.starts.proofs.Slots.{empty-is}
 use Rattle.starts.proofs.ring.empty.Statement.{statement}
 use Rattle.starts.proofs.ring.empty.Tie as tie
 

@@ -7,7 +7,8 @@ use denote.Ref.{now}
 use lib.ListN.{length}
 use borrow.Author.Needs.{needs}
 use Rattle.graph.specs.Columns.{at}
-use Rattle.starts.specs.inner.Ring.{AskedAt, Kept}
+use Rattle.graph.specs.inner.Lists.{Filtered}
+use Rattle.starts.specs.inner.Ring.{AskedAt}
 use Rattle.starts.proofs.Kept.{Keeping, keeping-none, keeping-like, keeping-hit, keeping-miss}
 use Rattle.starts.proofs.ring.keep_asked.Statement.{statement}
 use Rattle.starts.proofs.ring.keep_asked.Tie as tie
@@ -80,7 +81,7 @@ returns : tie.Need-returns Inv-loop μ-loop
 returns c =
     let a = c .before .before .args in
     let l = c .before .loop in
-    subst (λ i. Kept (AskedAt (now (a .lab)) (a .s)) (now (a .list)) i (l .list) (l .kept)) (let z : l .i ≡ a .n = omega arith in z) (l .inv .1 .kept)
+    subst (λ i. Filtered (AskedAt (now (a .lab)) (a .s)) (now (a .list)) i (l .list) (l .kept)) (let z : l .i ≡ a .n = omega arith in z) (l .inv .1 .kept)
 
 pub keep-asked-spec : {M : Type 1} → statement M
 keep-asked-spec =

@@ -1,4 +1,4 @@
--- `starts::ring::place` meets its contract: the edges that enter the first i nodes have their cells.
+-- `starts::ring::place` meets its contract: the edges that enter the first i nodes have their slots.
 use Prim.Native.Nat.{suc, _+_, _-_, _≤_, _<_}
 use mathlib.Core.Path.{_≡_, refl, sym, subst, _∙_}
 use native.Mathlib.Omega.{arith}
@@ -7,21 +7,21 @@ use denote.Ref.{now}
 use lib.ListN.{length}
 use borrow.Author.Needs.{needs}
 use Rattle.graph.specs.Columns.{at}
-use Rattle.starts.specs.inner.Ring.{CellsOf, Cellable}
-use Rattle.starts.proofs.Cells.{node-more}
+use Rattle.starts.specs.inner.Ring.{SlotsOf, Slotable}
+use Rattle.starts.proofs.Slots.{node-more}
 use Rattle.starts.proofs.ring.place.Statement.{statement}
 use Rattle.starts.proofs.ring.place.Tie as tie
 
 abbrev Inv-loop : tie.InvT-loop
-Inv-loop list n first ins from count start s cells₀ i₀ cells i = (i ≤ n) × (length cells ≡ length cells₀) × CellsOf list i first ins from count start s cells
+Inv-loop list n first ins from count start s slots₀ i₀ slots i = (i ≤ n) × (length slots ≡ length slots₀) × SlotsOf list i first ins from count start s slots
 
 abbrev μ-loop : tie.MeasureT-loop
-μ-loop list n first ins from count start s cells₀ i₀ cells i = n - i
+μ-loop list n first ins from count start s slots₀ i₀ slots i = n - i
 
 here : (c : tie.In-loop Inv-loop μ-loop)
     → let a = c .before .before .before .before .before .before .before .before .before .args in
     let v = at (now (a .list)) (c .before .loop .i) in
-    (suc v < length (now (a .first))) × Cellable (now (a .ins)) (now (a .from)) (now (a .count)) (now (a .start)) (length (now (a .cells))) (at (now (a .first)) v) (at (now (a .first)) (suc v))
+    (suc v < length (now (a .first))) × Slotable (now (a .ins)) (now (a .from)) (now (a .count)) (now (a .start)) (length (now (a .slots))) (at (now (a .first)) v) (at (now (a .first)) (suc v))
 here c = c .before .before .before .before .before .before .before .before .before .pre .1 (c .before .loop .i) (c .loop-test .taken)
 
 loop-holds : tie.Need-loop-holds Inv-loop μ-loop
@@ -62,7 +62,7 @@ place-node-requires c κs =
     let a = c .before .before .before .before .before .before .before .before .before .before .before .before .before .args in
     let l = c .before .before .before .before .before .loop in
     let v = at (now (a .list)) (l .i) in
-    subst (λ x. Cellable (now (a .ins)) (now (a .from)) (now (a .count)) (now (a .start)) x (at (now (a .first)) v) (at (now (a .first)) (v + 1))) (sym (l .inv .1))
+    subst (λ x. Slotable (now (a .ins)) (now (a .from)) (now (a .count)) (now (a .start)) x (at (now (a .first)) v) (at (now (a .first)) (v + 1))) (sym (l .inv .1))
     (rw (add-one v) (here (c .before .before .before .before) .1))
 
 add-i : tie.Need-add-i Inv-loop μ-loop
@@ -78,7 +78,7 @@ loop-again c =
     let p = c .before .before .place-node in (
       omega arith,
       p .kept .1 .1 .1 .1 .1 .1 .1 .0 ∙ l .inv .1,
-      node-more (now (a .list)) (l .i) (now (a .first)) (now (a .ins)) (now (a .from)) (now (a .count)) (now (a .start)) (a .s) (l .cells) _
+      node-more (now (a .list)) (l .i) (now (a .first)) (now (a .ins)) (now (a .from)) (now (a .count)) (now (a .start)) (a .s) (l .slots) _
           (p .ensures) (l .inv .2),
     )
 

@@ -1,220 +1,36 @@
--- `starts::ring::ring_of` meets its contract: before clock s the ring holds what is needed of the clocks before it.
-use Prim.Native.Nat.{_-_}
-use mathlib.Core.Path.{_≡_, refl, sym}
+-- `starts::ring::ring_of` meets its contract: where no clock is asked for, nothing is asked of the ring.
+use mathlib.Core.Path.{_≡_}
 use native.Mathlib.Omega.{arith}
 use denote.Ref.{now}
 use lib.ListN.{length}
 use borrow.Author.Needs.{needs}
-use Rattle.graph.specs.Columns.{at}
-use Rattle.netlist.proofs.Run.{fit-rows}
-use Rattle.netlist.proofs.Lowest.{laid}
-use Rattle.simulate.proofs.Plans.{loop-kinds, kind-low}
-use Rattle.starts.proofs.Entering.{entering}
 use Rattle.starts.proofs.Held.{held-start, held-end}
-use Rattle.starts.proofs.Followed.{Following, following-start, following-list, following-turns, following-evaluable, following-truths, following-next}
 use Rattle.starts.proofs.ring.ring_of.Statement.{statement}
 use Rattle.starts.proofs.ring.ring_of.Tie as tie
 
-abbrev Inv-loop : tie.InvT-loop
-Inv-loop lab net nodes edges ring₀ clocks list₀ ins first truth index cells₀ n₀ s₀ ring list cells n s =
-    Following net lab ins first truth index clocks s list n cells ring
-
-abbrev μ-loop : tie.MeasureT-loop
-μ-loop lab net nodes edges ring₀ clocks list₀ ins first truth index cells₀ n₀ s₀ ring list cells n s =
-    clocks - s
-
-net-rows : (c : tie.Start Inv-loop μ-loop) → (length (c .args .t1 .from) ≡ 1024) × (length (c .args .t1 .count) ≡ 1024) × (length (c .args .t1 .start) ≡ 1024)
-net-rows c = (search needs, search needs, search needs)
-
-list-rows : (c : tie.After-by-rank Inv-loop μ-loop) → length (c .by-rank .result) ≡ 512
-list-rows c = search needs
-
-ring-rows : (c : tie.After-empty Inv-loop μ-loop) → length (c .empty .result) ≡ 32770
+ring-rows : (c : tie.After-empty) → length (c .empty .result) ≡ 32770
 ring-rows c = search needs
 
-cast-nodes : tie.Need-cast-nodes Inv-loop μ-loop
-cast-nodes c = search needs
+cast-clocks-asked : tie.Need-cast-clocks-asked
+cast-clocks-asked c = search needs
 
-cast-edges : tie.Need-cast-edges Inv-loop μ-loop
-cast-edges c = search needs
-
-empty-requires : tie.Need-empty-requires Inv-loop μ-loop
-empty-requires c κs = search needs
-
-clocks-asked-requires : tie.Need-clocks-asked-requires Inv-loop μ-loop
+clocks-asked-requires : tie.Need-clocks-asked-requires
 clocks-asked-requires c κs = search needs
 
-returns : tie.Need-returns Inv-loop μ-loop
+empty-requires : tie.Need-empty-requires
+empty-requires c κs = search needs
+
+returns : tie.Need-returns
 returns c =
-    let s = c .before .before .before .before in
-    let r = c .before .before in
-    held-end (s .args .t1) (now (s .args .lab)) 0 (r .empty .result) (λ v h. omega (arith, c .before .clocks-asked .ensures .1 v h, c .if1 .taken))
-    (held-start (s .args .t1) (now (s .args .lab)) (r .empty .result) (ring-rows r) (r .empty .ensures))
+    let s = c .before .before .before .before .before in
+    held-end (s .args .net) (now (s .args .lab)) 0 (c .empty .result) (λ v h. omega (arith, c .before .before .clocks-asked .ensures .1 v h, c .before .if1 .taken))
+    (held-start (s .args .net) (now (s .args .lab)) (c .empty .result) (ring-rows c) (c .empty .ensures))
 
-by-rank-requires : tie.Need-by-rank-requires Inv-loop μ-loop
-by-rank-requires c κs =
-    let s = c .before .before .before .before .before .before .before .before .before .before .before in
-    let net = s .args .t1 in
-    let ok = s .pre .0 in (
-      (laid net (ok .fit) (search needs) (search needs), omega (arith, fit-rows net (ok .fit) .1)),
-      λ kind l. ok .no-loop (loop-kinds (net .nodes) (net .edges) kind (net .kind) (net .from) (net .to) (at (net .count)) l),
-    )
+follow-requires : tie.Need-follow-requires
+follow-requires c κs = search needs
 
-slice-aggregate-sort-by : tie.Need-slice-aggregate-sort-by Inv-loop μ-loop
-slice-aggregate-sort-by c = search needs
-
-slice-aggregate-sort-by-2 : tie.Need-slice-aggregate-sort-by-2 Inv-loop μ-loop
-slice-aggregate-sort-by-2 c = search needs
-
-sort-by-requires : tie.Need-sort-by-requires Inv-loop μ-loop
-sort-by-requires c κs = let s = c .before .before .before .before .before .before .before .before .before .before .before .before .before .before .before .before .before in let few = fit-rows (s .args .t1) (s .pre .0 .fit) in (omega (arith, few .1), omega (arith, few .1), omega (arith, few .1), omega (arith, few .0))
-
-slice-aggregate-put-truths : tie.Need-slice-aggregate-put-truths Inv-loop μ-loop
-slice-aggregate-put-truths c = search needs
-
-slice-aggregate-put-truths-2 : tie.Need-slice-aggregate-put-truths-2 Inv-loop μ-loop
-slice-aggregate-put-truths-2 c = search needs
-
-put-truths-requires : tie.Need-put-truths-requires Inv-loop μ-loop
-put-truths-requires c κs =
-    let s = c .before .before .before .before .before .before .before .before .before .before .before .before .before .before .before .before .before .before .before .before .before .before .before .before .before in
-    let net = s .args .t1 in
-    let few = fit-rows net (s .pre .0 .fit) in
-    let b = c .before .before .before .before .before .before .before .sort-by in
-    let en = entering net (s .pre .0) (omega (arith, few .1)) (b .ensures) in (
-      (omega (arith, few .0), omega (arith, few .0, b .kept .1 .1 .1 .1 .0), omega (arith, few .0)),
-      λ i h. (kind-low net (s .pre .0 .fit) i h, en .rising i h, en .few i h),
-    )
-
-index-table-requires : tie.Need-index-table-requires Inv-loop μ-loop
-index-table-requires c κs = search needs
-
-loop-holds : tie.Need-loop-holds Inv-loop μ-loop
-loop-holds c =
-    let s = c .before .before .before .before .before .before .before .before .before .before .before .before .before .before .before .before .before .before .before .before .before .before .before .before .before .before .before .before in
-    let net = s .args .t1 in
-    let few = fit-rows net (s .pre .0 .fit) in
-    let b = c .before .before .before .before .before .before .before .before .before .before .sort-by in
-    let p = c .before .before .put-truths in
-    let r = c .before .before .before .before .before .before .before .before .before .before .before .before .before .before .before .before .before .before .before .before .before .before .before .before .before .before in
-    following-start net (now (s .args .lab)) _ _ _ _ _
-    (record {
-      steppable = s .pre .0;
-      labelled = s .pre .1;
-      net-rows = net-rows s;
-      rows = (b .kept .1 .1 .1 .0, b .kept .1 .1 .1 .1 .0, p .kept .1 .1 .1 .0);
-      entering = entering net (s .pre .0) (omega (arith, few .1)) (b .ensures);
-      truths = p .ensures;
-      table = c .index-table .ensures;
-    })
-    (c .before .before .before .before .before .before .before .before .before .before .before .before .before .before .before .before .before .before .before .before .before .before .before .before .before .clocks-asked .ensures .0) _ _ _ (list-rows (c .before .before .before .before .before .before .before .before .before .before .before .before .before .before .before .before)) refl (ring-rows r) (r .empty .ensures) (c .before .before .before .before .before .before .before .before .before .before .before .before .before .before .before .before .by-rank .ensures)
-
-slice-aggregate-refresh : tie.Need-slice-aggregate-refresh Inv-loop μ-loop
-slice-aggregate-refresh c = sym (c .before .before .loop .inv .list-rows)
-
-refresh-requires : tie.Need-refresh-requires Inv-loop μ-loop
-refresh-requires c κs = following-list _ _ _ _ _ _ _ _ _ _ _ _ (c .before .before .loop .inv) (c .before .loop-test .taken)
-
-slice-aggregate-turn : tie.Need-slice-aggregate-turn Inv-loop μ-loop
-slice-aggregate-turn c = search needs
-
-slice-aggregate-turn-2 : tie.Need-slice-aggregate-turn-2 Inv-loop μ-loop
-slice-aggregate-turn-2 c = search needs
-
-slice-aggregate-turn-3 : tie.Need-slice-aggregate-turn-3 Inv-loop μ-loop
-slice-aggregate-turn-3 c = search needs
-
-slice-aggregate-turn-4 : tie.Need-slice-aggregate-turn-4 Inv-loop μ-loop
-slice-aggregate-turn-4 c = sym (c .before .before .before .before .before .before .before .before .before .before .before .before .before .before .before .loop .inv .cell-rows)
-
-turn-requires : tie.Need-turn-requires Inv-loop μ-loop
-turn-requires c κs =
-    let turn = c .before .before .before .before .before .before .before .before .before .before .before .before .before .before in
-    let r = c .before .before .before .before .before .before .before .before .before .before .before .before .refresh in
-    let t = following-turns _ _ _ _ _ _ _ _ _ _ _ _ (turn .before .loop .inv) (turn .loop-test .taken) _ _ (r .ensures) (r .kept .1 .1 .0) in
-    (t .0, (t .1, t .2))
-
-mul-row : tie.Need-mul-row Inv-loop μ-loop
-mul-row c = search needs
-
-slice-aggregate-evaluate : tie.Need-slice-aggregate-evaluate Inv-loop μ-loop
-slice-aggregate-evaluate c = search needs
-
-slice-aggregate-evaluate-2 : tie.Need-slice-aggregate-evaluate-2 Inv-loop μ-loop
-slice-aggregate-evaluate-2 c = search needs
-
-slice-aggregate-evaluate-3 : tie.Need-slice-aggregate-evaluate-3 Inv-loop μ-loop
-slice-aggregate-evaluate-3 c = search needs
-
-slice-aggregate-evaluate-4 : tie.Need-slice-aggregate-evaluate-4 Inv-loop μ-loop
-slice-aggregate-evaluate-4 c = search needs
-
-slice-aggregate-evaluate-5 : tie.Need-slice-aggregate-evaluate-5 Inv-loop μ-loop
-slice-aggregate-evaluate-5 c = search needs
-
-slice-aggregate-evaluate-6 : tie.Need-slice-aggregate-evaluate-6 Inv-loop μ-loop
-slice-aggregate-evaluate-6 c = sym (c .before .before .before .before .before .before .before .before .before .before .before .before .before .before .before .before .before .before .before .before .before .before .before .loop .inv .held .size)
-
-evaluate-requires : tie.Need-evaluate-requires Inv-loop μ-loop
-evaluate-requires c κs =
-    let turn = c .before .before .before .before .before .before .before .before .before .before .before .before .before .before .before .before .before .before .before .before .before .before in
-    let r = c .before .before .before .before .before .before .before .before .before .before .before .before .before .before .before .before .before .before .before .before .refresh in
-    let t = c .before .before .before .before .before .before .before .turn in
-    following-evaluable _ _ _ _ _ _ _ _ _ _ _ _ (turn .before .loop .inv) (turn .loop-test .taken) _ _ (r .ensures) (r .kept .1 .1 .0) _ (t .kept .1 .1 .1 .1 .1 .1 .1 .1 .1 .0) (t .ensures)
-
-add-s : tie.Need-add-s Inv-loop μ-loop
-add-s c = omega (arith, c .before .before .before .before .before .before .before .before .before .before .before .before .before .before .before .before .before .before .before .before .before .before .before .before .loop-test .taken, c .before .before .before .before .before .before .before .before .before .before .before .before .before .before .before .before .before .before .before .before .before .before .before .before .before .loop .inv .clocks-low)
-
-loop-less : tie.Need-loop-less Inv-loop μ-loop
-loop-less c = omega (arith, c .before .before .before .before .before .before .before .before .before .before .before .before .before .before .before .before .before .before .before .before .before .before .before .before .loop-test .taken)
-
-loop-again : tie.Need-loop-again Inv-loop μ-loop
-loop-again c =
-    let turn = c .before .before .before .before .before .before .before .before .before .before .before .before .before .before .before .before .before .before .before .before .before .before .before .before in
-    let r = c .before .before .before .before .before .before .before .before .before .before .before .before .before .before .before .before .before .before .before .before .before .before .refresh in
-    let t = c .before .before .before .before .before .before .before .before .before .turn in
-    following-next _ _ _ _ _ _ _ _ _ _ _ _ (turn .before .loop .inv) (turn .loop-test .taken) _ _ (r .ensures) (r .kept .1 .1 .0) _ (t .kept .1 .1 .1 .1 .1 .1 .1 .1 .1 .0) (t .ensures) _
-    (c .before .evaluate .ensures (c .before .before .before .before .before .before .before .before .before .before .before .before .before .before .before .before .before .before .before .before .before .before .before .before .before .before .before .before .before .before .before .before .before .before .before .before .before .before .before .before .before .before .before .before .before .before .before .before .before .before .before .before .before .before .args .t1 .kind) (following-truths _ _ _ _ _ _ _ _ _ _ _ _ (turn .before .loop .inv) (turn .loop-test .taken) _ _ (r .ensures) (r .kept .1 .1 .0)))
-
-returns-2 : tie.Need-returns-2 Inv-loop μ-loop
-returns-2 c = let s = c .before .before .before .before .before .before .before .before .before .before .before .before .before .before .before .before .before .before .before .before .before .before .before .before .before .before .before .before .before .before in held-end (s .args .t1) (now (s .args .lab)) _ _ (λ v h. omega (arith, c .before .before .before .before .before .before .before .before .before .before .before .before .before .before .before .before .before .before .before .before .before .before .before .before .before .before .before .clocks-asked .ensures .1 v h, c .loop-test .left)) (c .before .loop .inv .held)
+returns-2 : tie.Need-returns-2
+returns-2 c = search needs
 
 pub ring-of-spec : {M : Type 1} → statement M
-ring-of-spec =
-    tie.close
-    (tie.spec
-    Inv-loop
-    μ-loop
-    cast-nodes
-    cast-edges
-    empty-requires
-    clocks-asked-requires
-    returns
-    by-rank-requires
-    slice-aggregate-sort-by
-    slice-aggregate-sort-by-2
-    sort-by-requires
-    slice-aggregate-put-truths
-    slice-aggregate-put-truths-2
-    put-truths-requires
-    index-table-requires
-    loop-holds
-    slice-aggregate-refresh
-    refresh-requires
-    slice-aggregate-turn
-    slice-aggregate-turn-2
-    slice-aggregate-turn-3
-    slice-aggregate-turn-4
-    turn-requires
-    mul-row
-    slice-aggregate-evaluate
-    slice-aggregate-evaluate-2
-    slice-aggregate-evaluate-3
-    slice-aggregate-evaluate-4
-    slice-aggregate-evaluate-5
-    slice-aggregate-evaluate-6
-    evaluate-requires
-    add-s
-    loop-less
-    loop-again
-    returns-2)
+ring-of-spec = tie.close (tie.spec cast-clocks-asked clocks-asked-requires empty-requires returns follow-requires returns-2)

@@ -6,7 +6,7 @@ use denote.Ref.{now}
 use lib.ListN.{length}
 use borrow.Author.Needs.{needs}
 use Rattle.graph.specs.Columns.{at}
-use Rattle.starts.proofs.Cells.{cellable-wider, edge-turn}
+use Rattle.starts.proofs.Slots.{slotable-wider, edge-turn}
 use Rattle.starts.proofs.ring.turn.Statement.{statement}
 use Rattle.starts.proofs.ring.turn.Tie as tie
 
@@ -14,7 +14,7 @@ place-requires : tie.Need-place-requires
 place-requires c κs =
     let s = c .before .before .before .before .before .before .before .before .before in
     let a = s .args in
-    (s .pre .0 .0, cellable-wider (now (a .list)) (a .n) (now (a .first)) (now (a .ins)) (now (a .from)) (now (a .count)) (now (a .start)) (a .edges) (length (now (a .cells))) (s .pre .0 .1) (s .pre .1 .0))
+    (s .pre .0 .0, slotable-wider (now (a .list)) (a .n) (now (a .first)) (now (a .ins)) (now (a .from)) (now (a .count)) (now (a .start)) (a .edges) (length (now (a .slots))) (s .pre .0 .1) (s .pre .1 .0))
 
 advance-requires : tie.Need-advance-requires
 advance-requires c κs = search needs
@@ -37,7 +37,7 @@ returns-2 c =
     let late : 32 ≤ t = omega (arith, c .before .before .before .before .if1 .left) in
     λ i l k x y.
     let r = s .pre .1 .0 i l .1 in
-    c .before .before .advance .ensures k (omega (arith, r .in-cells)) ∙ ap (λ z. (z % 32768 + 512) % 32768) (s .pre .1 .1 t late q i l k x y)
+    c .before .before .advance .ensures k (omega (arith, r .in-slots)) ∙ ap (λ z. (z % 32768 + 512) % 32768) (s .pre .1 .1 t late q i l k x y)
     ∙ edge-turn (now (a .from)) (now (a .count)) (now (a .start)) (at (now (a .ins)) k) t (a .s) (r .edges k x y) late q
 
 pub turn-spec : {M : Type 1} → statement M

@@ -12,7 +12,7 @@ cast-edges c = search needs
 
 bytes-of-requires : tie.Need-bytes-of-requires
 bytes-of-requires c κs =
-    let m = c .before .before .before .before .pre in
+    let m = c .before .before .before .before .pre .0 in
     (low-edges _ _ (m .labelled), m .count-rows, m .narrow)
 
 starts-of-requires : tie.Need-starts-of-requires
@@ -28,9 +28,9 @@ words-rows : (c : tie.After-starts-of) → length (c .starts-of .result) ≡ 102
 words-rows c = search needs
 
 returns : tie.Need-returns
-returns c =
+returns c = λ n w.
     c .with-columns .ensures
-    ∙ moved-is _ _ _ _ _ _ (c .before .before .before .before .before .before .before .pre) _ _ (bytes-rows (c .before .before)) (words-rows (c .before)) (c .before .before .bytes-of .ensures) (c .before .starts-of .ensures)
+    ∙ moved-is _ _ _ n (c .before .before .before .before .before .before .before .pre .0) _ _ (bytes-rows (c .before .before)) (words-rows (c .before)) (c .before .before .bytes-of .ensures) (c .before .starts-of .ensures n w)
 
 pub moved-spec : {M : Type 1} → statement M
 moved-spec = tie.close (tie.spec cast-edges bytes-of-requires starts-of-requires with-columns-requires returns)

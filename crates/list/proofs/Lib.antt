@@ -1,9 +1,0 @@
--- The laws of what `listing` prints.
--- Lags as numbers of two bytes, and their lines.
-pub mod Lines
--- Long texts: more-decides-nothing.
-pub mod More
--- What `list` puts out, by cases.
-pub mod Cases
--- The other theorems of specs/Theorems: some-print, one-print, pages-hold.
-pub mod Theorems

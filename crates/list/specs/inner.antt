@@ -1,2 +1,0 @@
--- Inside: the same, into a buffer that is lent.
-pub mod Lists

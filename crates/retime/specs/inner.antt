@@ -1,0 +1,2 @@
+-- Inside: the same, after the text has read.
+pub mod Leaves

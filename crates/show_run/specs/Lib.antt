@@ -1,2 +1,0 @@
--- What the program `run` prints of a run.
-pub mod Printed
