@@ -1,5 +1,6 @@
 // A gate's truth word: bits 0 to 8 are its values, one for each number of ones among its inputs; from bit 9 up stands the seed that its inputs are
 // gathered behind, which picks a part of the index table: 0, where the number of ones decides.
+// Required of `put_truths`: gate kinds of document 01 with at most 8 inputs, which rule 5 makes sure of.
 ghost use mathlib.Core.Path.{_≡_};
 ghost use Prim.Native.Nat.{ℕ, suc, _+_, _-_, _<_, _≤_, min};
 ghost use lib.ListN.{length};

@@ -1,4 +1,5 @@
 // Values from signals. What a gate sees is listed as places in `sig`, where 0 or 1 stands.
+// Required: signals in place for each gate, and its truth word; the plan of a netlist and the program of a search have them.
 ghost use mathlib.Core.Path.{_≡_};
 ghost use mathlib.Core.List.{List, map};
 ghost use Prim.Native.Nat.{ℕ, suc, _-_, _*_, _^_, _<_, _≤_};

@@ -1,6 +1,7 @@
 // Labels and arrival times together, from below: each node takes the highest label that an edge asks of it, and with it the latest time; where its own delay would
 // bring it past the period, it takes one label more and begins anew. No step passes a legal retiming that meets the period, and where nothing changes any more
 // the labels are one. Along the evaluation order a few sweeps are enough, but on a loop that is too slow they climb on and on: then the rounds decide.
+// Private to the crate: `least` hands on a netlist that reads, and its edges by node.
 use crate::Labels;
 use graph::NODES;
 use graph::any_above;

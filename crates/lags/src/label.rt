@@ -1,4 +1,5 @@
 // Labels: a label is 16,384 and the lag, so that all labels are natural numbers.
+// Required of `lag_of`: a label whose lag fits 16 bits, which `least` promises of every label.
 ghost use mathlib.Core.Path.{_≡_};
 ghost use Prim.Native.Nat.{_<_};
 ghost use Rattle.theory.specs.Lag.{up};

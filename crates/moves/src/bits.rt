@@ -1,4 +1,5 @@
 // A word of start values, put together bit by bit.
+// Required: a word that has no bit yet from place t up, which whoever puts its bits in order has.
 ghost use mathlib.Core.Path.{_≡_};
 ghost use Prim.Native.Nat.{_+_, _*_, _^_, _≤_, _<_};
 

@@ -4,7 +4,6 @@
 --   joined-first        joined lists, the first apart
 --   rows-past           what stands past n rows of one number each
 --   bits-at, bits-take, bits-drop    a member of a list of bits is 0 or 1; its parts are lists of bits
---   bits-append, bits-gather    so are two in a row, and gathered bits
 use Prim.Native.Nat.{ℕ, zero, suc, _+_, _-_, _<_, _≤_}
 use native.Mathlib.Omega.{arith}
 use native.Mathlib.Decide.{ℕ-discrete}
@@ -14,8 +13,7 @@ use mathlib.Core.List.{List, [], _∷_, _++_, append-assoc, append-nil}
 use lib.Dec.{leb}
 use lib.ListN.{length, getD, take, drop, length-append}
 use lib.Seq.{drop-append-add, drop-drop}
-use borrow.Author.Tests.{leb-true, le-leb}
-use Rattle.theory.specs.Clock.{gather}
+use borrow.Author.Tests.{leb-true}
 use Rattle.theory.proofs.clocks.Seen.{gather-hit, gather-miss}
 use Rattle.netlist.specs.declared.Netlist.{Netlist}
 use Rattle.netlist.specs.Net.{graphOf}
@@ -77,17 +75,3 @@ unfolding onlyBits
 bits-drop zero l h = h
 bits-drop (suc n) [] h = refl
 bits-drop (suc n) (b ∷ l) h = bits-drop n l (both (leb b 1) (onlyBits l) h .1)
-
-pub bits-append : (l m : List ℕ) → onlyBits l ≡ true → onlyBits m ≡ true → onlyBits (l ++ m) ≡ true
-unfolding onlyBits
-bits-append [] m h k = k
-bits-append (b ∷ l) m h k = let p = both (leb b 1) (onlyBits l) h in rw (p .0) (bits-append l m (p .1) k)
-
-pub bits-gather : (kind f : ℕ → ℕ) (k n : ℕ) → ((i : ℕ) → i < n → kind i ≡ k → f i ≤ 1) → onlyBits (gather kind f k n) ≡ true
-unfolding onlyBits gather
-bits-gather kind f k zero h = refl
-bits-gather kind f k (suc n) h = go (ℕ-discrete (kind n) k) (bits-gather kind f k n (λ i l. h i (omega arith)))
-  where
-    go : Dec (kind n ≡ k) → onlyBits (gather kind f k n) ≡ true → onlyBits (gather kind f k (suc n)) ≡ true
-    go (yes q) e = rw (gather-hit kind f k n q) (bits-append (gather kind f k n) (f n ∷ []) e (rw (le-leb (f n) 1 (h n (omega arith) q))))
-    go (no q) e = rw (gather-miss kind f k n q) e
