@@ -6,11 +6,11 @@ use native.Mathlib.Omega.{arith}
 use mathlib.Core.Path.{_≡_, sym, ap, ap₂, _∙_}
 use mathlib.Core.Bool.{Bool, true, false}
 use mathlib.Core.List.{List}
-use Rattle.theory.specs.Move.{digit, choiceOf}
+use Rattle.theory.specs.Move.{digit}
 use Rattle.theory.proofs.numbers.Sums.{sum-more, sum-grows}
 use Rattle.graph.specs.Columns.{at}
 use Rattle.netlist.specs.declared.Netlist.{Netlist}
-use Rattle.netlist.specs.Net.{graphOf, regsOf}
+use Rattle.netlist.specs.Circuit.{choiceAt}
 use Rattle.moves.specs.Moved.{wordOf}
 use Rattle.moves.specs.inner.Labels.{lagsOf, chosenAt}
 use Rattle.moves.specs.inner.Moving.{Choosing}
@@ -31,7 +31,7 @@ module _ {net : Netlist} {lab counts base : List ℕ} {k : ℕ} (ch : Choosing n
   run-words c words w e h =
       w e h
       ∙ ap₂ (λ n b. wordOf (λ t. digit n c (b + t)) (at base (e + 1) - at base e)) (size ch) (ch .based e (omega arith))
-      ∙ ap (wordOf (choiceOf (graphOf net) (regsOf net .count) (lagsOf lab) c e)) (let z : at base (e + 1) - at base e ≡ chosenAt net lab e = omega (arith, base-step e (omega arith)) in z)
+      ∙ ap (wordOf (choiceAt net (lagsOf lab) c e)) (let z : at base (e + 1) - at base e ≡ chosenAt net lab e = omega (arith, base-step e (omega arith)) in z)
 
   pub chosen : (found : Bool) (c : ℕ) (words : List ℕ) → Chooses net (lagsOf lab) found c → RunWords c k base (net .edges) words → Chosen net (lagsOf lab) found words
   chosen true c words b w = record { number = c; best = b; its-words = run-words c words w }

@@ -7,16 +7,15 @@ use native.Mathlib.Numerals.{add-one}
 use mathlib.Core.Path.{_≡_, sym, ap, ap₂, _∙_}
 use mathlib.Core.Bool.{cond}
 use mathlib.Core.Logic.{inl}
-use mathlib.Core.List.{List, map}
+use mathlib.Core.List.{List}
 use lib.Dec.{ltb}
 use lib.ListN.{length, take, drop}
 use Rattle.theory.specs.Clock.{gather}
 use Rattle.theory.specs.Move.{sum}
-use Rattle.theory.proofs.clocks.Seen.{gather-same, gather-map}
+use Rattle.theory.proofs.clocks.Seen.{gather-same}
 use Rattle.graph.specs.Columns.{at}
-use Rattle.graph.specs.inner.Sort.{group, sorted, Sorts}
-use Rattle.graph.proofs.Sorted.{sorted-part}
-use Rattle.graph.proofs.Parts.{part-map}
+use Rattle.graph.specs.inner.Sort.{group, Sorts}
+use Rattle.graph.proofs.ByNode.{sorts-width, sorts-seen}
 use Rattle.netlist.specs.declared.Netlist.{Netlist}
 use Rattle.netlist.proofs.Run.{fit-wired}
 use Rattle.search.specs.inner.Program.{operandsOf}
@@ -26,7 +25,6 @@ use Rattle.choose.specs.inner.Numbers.{lagAt, Arranged, CellsNumbered}
 use Rattle.choose.specs.inner.Sources.{sourceAt, widthAt, Operands}
 use Rattle.choose.specs.inner.Dues.{cellAt, Celled, Dues}
 use Rattle.theory.proofs.numbers.Sums.{sum-more, sum-grows}
-use Rattle.choose.proofs.Enters.{all-edges, ins-at, width}
 
 pub celled : (lag : ℕ → ℕ) (order : List ℕ) (nodes cells : ℕ) (id code : List ℕ) → ((v : ℕ) → v < nodes → lag v ≤ 24)
     → CellsNumbered lag order nodes 24 0 cells id code → Celled lag nodes cells id
@@ -71,24 +69,17 @@ module _ (net : Netlist) (lab counts base order id code old ins begin kind first
       let i = cell v t in
       let hi : i < cells = okay .inside v t hv ht in
       let d : at code i / 32 ≡ v = node-of v t hv ht in
-      let w = width (net .to) (net .edges) (net .nodes) old ins begin inside room st v hv in
-      let all = sorted (net .to) (net .edges) (net .nodes) in
-      let every = all-edges (net .to) (net .edges) (net .nodes) old ins begin inside room st in
       let f : ℕ → ℕ = sourceAt (net .from) counts base id t in
       let m : ℕ = length (group (net .to) v (net .edges)) in
-      let size : widthAt begin code i ≡ m = ap (λ u. at begin (u + 1) - at begin u) d ∙ w .2 in
+      let size : widthAt begin code i ≡ m = ap (λ u. at begin (u + 1) - at begin u) d ∙ sorts-width (net .to) (net .nodes) (net .edges) inside room st v hv in
       let first-i : at first i ≡ sum (widthAt begin code) i = os .begins i (omega arith) in
       let next-i : at first (suc i) ≡ sum (widthAt begin code) i + widthAt begin code i = ap (at first) (sym (add-one i)) ∙ os .begins (i + 1) (omega arith) ∙ sum-more (widthAt begin code) i in
       let grow = sum-grows (widthAt begin code) (i + 1) cells (omega arith) in
       let more = sum-more (widthAt begin code) i in
       let take-is : at first (suc i) - at first i ≡ m = omega (arith, first-i, next-i, size) in
       ap₂ (λ x y. take x (drop y operand)) take-is first-i
-      ∙ part-map f all operand m (sum (widthAt begin code) i) (at begin v) (omega (arith, rows, grow, more, size)) (omega (arith, every, w .0, w .1, w .2))
-      (λ k l. os .shown i hi k (omega (arith, size)) ∙ ap₂ (λ x u. sourceAt (net .from) counts base id x (at ins (at begin u + k))) (clock-of v t hv ht) d
-      ∙ ap f (ins-at (net .to) (net .edges) (net .nodes) old ins begin inside room st (at begin v + k) (omega (arith, w .0, w .1, w .2))))
-      ∙ ap (λ y. map f (take m (drop y all))) (st .begins v (omega arith))
-      ∙ ap (map f) (sorted-part (net .to) (net .edges) v (net .nodes) hv)
-      ∙ gather-map f (at (net .to)) (λ e. e) v (net .edges)
+      ∙ sorts-seen (net .to) (net .nodes) (net .edges) inside room st f operand (sum (widthAt begin code) i) v hv (omega (arith, rows, grow, more, size))
+      (λ k l. os .shown i hi k (omega (arith, size)) ∙ ap₂ (λ x u. sourceAt (net .from) counts base id x (at ins (at begin u + k))) (clock-of v t hv ht) d)
       ∙ gather-same (at (net .to)) f (source net (lagsOf lab) cell t) v (net .edges) (λ e h q. source-is t e h)
 
   pub compiled : Compiled net (lagsOf lab) cells kind first operand due total (cellAt id)

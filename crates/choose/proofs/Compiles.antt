@@ -14,10 +14,9 @@ use mathlib.Core.List.{List, map}
 use borrow.Author.Tests.{lt-ltb, le-ltb}
 use lib.IntN.{ℤ}
 use Rattle.theory.specs.Clock.{Regs, seen, sees, value}
-use Rattle.theory.specs.Lag.{up, down, newCount, Legal}
-use Rattle.theory.specs.Move.{Moved, move, quiet, Carried, sum, chosenOn, chosenIn, digit, choiceOf}
+use Rattle.theory.specs.Lag.{up, down}
+use Rattle.theory.specs.Move.{Moved, move, quiet, sum, digit}
 use Rattle.theory.specs.Gate.{gate}
-use Rattle.theory.specs.Retimer.{Sound, retimed}
 use Rattle.theory.proofs.numbers.Whole.{no-down}
 use Rattle.theory.proofs.numbers.Sums.{sum-within}
 use Rattle.theory.proofs.clocks.Seen.{seen-is, gather-same, gather-map, gather-at}
@@ -27,6 +26,8 @@ use Rattle.theory.proofs.moves.Choose.{choice-number}
 use Rattle.graph.specs.Columns.{at, bit}
 use Rattle.netlist.specs.declared.Netlist.{Netlist}
 use Rattle.netlist.specs.Net.{graphOf, regsOf}
+use Rattle.netlist.specs.Circuit.{SoundIn, choiceAt, chosenInAt}
+use Rattle.netlist.specs.inner.Words.{CarriedAt, LegalAt, chosenOnAt, newCountAt, retimedAt}
 use Rattle.search.specs.inner.Program.{programOf, look, valuesTo, valueAt, RightProgram, GivesDues, Solves}
 use Rattle.search.proofs.Values.{look-bit, look-cell, values-at, value-gate}
 use Rattle.choose.specs.inner.Cells.{source, Compiled}
@@ -37,16 +38,16 @@ use Rattle.choose.proofs.Programs.{operand-at}
 
 -- The moved netlist's registers, and its values with all inputs at 0.
 abbrev pub after : Netlist → (ℕ → ℤ) → ℕ → Regs
-after net r c = retimed gate (graphOf net) (regsOf net) r c
+after net r c = retimedAt net r c
 
 abbrev pub given : Netlist → (ℕ → ℤ) → ℕ → ℕ → ℕ → ℕ
 given net r c = value gate (graphOf net) (after net r c) quiet
 
-module _ (net : Netlist) (ok : Sound gate (graphOf net) (regsOf net)) (r : ℕ → ℤ) (legal : Legal (graphOf net) (regsOf net .count) r)
+module _ (net : Netlist) (ok : SoundIn net) (r : ℕ → ℤ) (legal : LegalAt net r)
     {cells k total : ℕ} {kind first operand due : List ℕ} {cell : ℕ → ℕ → ℕ} (made : Compiled net r cells kind first operand due total cell)
-    (size : k ≡ chosenIn (graphOf net) (regsOf net .count) r) (right : RightProgram cells k (programOf kind first operand)) where
-  moved : (c : ℕ) → Moved (graphOf net) (regsOf net) (after net r c) r (choiceOf (graphOf net) (regsOf net .count) r c) (value gate (graphOf net) (regsOf net) quiet)
-  moved c = new-moved gate (graphOf net) (ok .wired) (regsOf net) (ok .no-loop) r legal (choiceOf (graphOf net) (regsOf net .count) r c)
+    (size : k ≡ chosenInAt net r) (right : RightProgram cells k (programOf kind first operand)) where
+  moved : (c : ℕ) → Moved (graphOf net) (regsOf net) (after net r c) r (choiceAt net r c) (value gate (graphOf net) (regsOf net) quiet)
+  moved c = new-moved gate (graphOf net) (ok .wired) (regsOf net) (ok .no-loop) r legal (choiceAt net r c)
 
   -- The cell of a source stands before the cell that it is an operand of: an operand of 32 or more is one cell's, and an earlier one's.
   pub source-before : (v t e x : ℕ) → v < net .nodes → t < up (r v) → e < net .edges → graphOf net .dst e ≡ v → source net r cell t e ≡ 32 + x → x < cell v t
@@ -75,10 +76,10 @@ module _ (net : Netlist) (ok : Sound gate (graphOf net) (regsOf net)) (r : ℕ �
       vals = valuesTo (programOf kind first operand) k c (cell v t)
 
       N : ℕ
-      N = newCount (graphOf net) (regsOf net .count) r e
+      N = newCountAt net r e
 
       before : ℕ
-      before = sum (chosenOn (graphOf net) (regsOf net .count) r) e
+      before = sum (chosenOnAt net r) e
 
       lag : t < up (r (graphOf net .dst e))
       lag = subst (λ u. t < up (r u)) (sym d) ht
@@ -89,7 +90,7 @@ module _ (net : Netlist) (ok : Sound gate (graphOf net) (regsOf net)) (r : ℕ �
       early : t < N → after net r c .start e t ≡ look k c vals (source net r cell t e)
       early h =
           let z : source net r cell t e ≡ before + t = rw (lt-ltb t N h) in
-          let l = sum-within (chosenOn (graphOf net) (regsOf net .count) r) (net .edges) e t he (omega (arith, lag)) in
+          let l = sum-within (chosenOnAt net r) (net .edges) e t he (omega (arith, lag)) in
           moved c .chosen e t he h (omega (arith, lag, one-sided))
           ∙ ap (λ n. digit n c (before + t)) (sym size)
           ∙ sym (look-bit k c vals (before + t) (omega (arith, right .few-bits)))
@@ -106,14 +107,14 @@ module _ (net : Netlist) (ok : Sound gate (graphOf net) (regsOf net)) (r : ℕ �
 
   -- By induction on the clock and, within it, on the order of the nodes, in the moved netlist, which has no loop without a register. A node of positive lag is no pin,
   -- so its value is its gate's over what it sees, and so is its cell's.
-  pub cell-value : (c v t : ℕ) → v < net .nodes → t < up (r v) → valueAt (programOf kind first operand) k c (cell v t) ≡ value gate (graphOf net) (retimed gate (graphOf net) (regsOf net) r c) quiet v t
+  pub cell-value : (c v t : ℕ) → v < net .nodes → t < up (r v) → valueAt (programOf kind first operand) k c (cell v t) ≡ value gate (graphOf net) (retimedAt net r c) quiet v t
   unfolding sees move
   cell-value c =
       clock-induction (graphOf net) (ok .wired) (after net r c) (new-no-loop gate (graphOf net) (ok .wired) (regsOf net) (ok .no-loop) r legal choice)
       (λ v t. t < up (r v) → valueAt (programOf kind first operand) k c (cell v t) ≡ given net r c v t) step
     where
       choice : ℕ → ℕ → ℕ
-      choice = choiceOf (graphOf net) (regsOf net .count) r c
+      choice = choiceAt net r c
 
       step : (v t : ℕ) → v < net .nodes
           → ((e q : ℕ) → e < net .edges → graphOf net .dst e ≡ v → after net r c .count e + q ≡ t → q < up (r (graphOf net .src e))
@@ -132,10 +133,10 @@ module _ (net : Netlist) (ok : Sound gate (graphOf net) (regsOf net)) (r : ℕ �
   -- ── What is due ───────────────────────────────────────────────────────────────────────────
 
   -- The due of an old value asks of its cell what carrying the start asks of its node. Each old value that is to be carried has its due, and each due is one's.
-  pub compiled-holds : (c : ℕ) → GivesDues k (programOf kind first operand) due total c ↔ Carried gate (graphOf net) (regsOf net) r (choiceOf (graphOf net) (regsOf net .count) r c)
+  pub compiled-holds : (c : ℕ) → GivesDues k (programOf kind first operand) due total c ↔ CarriedAt net r (choiceAt net r c)
   compiled-holds c = (forth, back)
     where
-      forth : GivesDues k (programOf kind first operand) due total c → Carried gate (graphOf net) (regsOf net) r (choiceOf (graphOf net) (regsOf net .count) r c)
+      forth : GivesDues k (programOf kind first operand) due total c → CarriedAt net r (choiceAt net r c)
       forth holds e s t he hs p =
           let v = graphOf net .src e in
           let d = made .dues .complete e s t (record { edge = he; old = hs; clock = p }) in
@@ -144,7 +145,7 @@ module _ (net : Netlist) (ok : Sound gate (graphOf net) (regsOf net)) (r : ℕ �
           sym (cell-value c v t (ok .wired .src-in e he) (omega arith))
           ∙ ap (valueAt (programOf kind first operand) k c) (sym i) ∙ sym (holds (d .place) (d .within)) ∙ x
 
-      back : Carried gate (graphOf net) (regsOf net) r (choiceOf (graphOf net) (regsOf net .count) r c) → GivesDues k (programOf kind first operand) due total c
+      back : CarriedAt net r (choiceAt net r c) → GivesDues k (programOf kind first operand) due total c
       back carried x h =
           let d = made .dues .sound x h in
           let q = d .carry in
@@ -156,8 +157,8 @@ module _ (net : Netlist) (ok : Sound gate (graphOf net) (regsOf net)) (r : ℕ �
 
 -- ── The program's answer ────────────────────────────────────────────────────────────────────
 
-module _ (net : Netlist) (ok : Sound gate (graphOf net) (regsOf net)) (r : ℕ → ℤ) (legal : Legal (graphOf net) (regsOf net .count) r)
-    {k cells rows : ℕ} {kind first operand due begin : List ℕ} (size : k ≡ chosenIn (graphOf net) (regsOf net .count) r)
+module _ (net : Netlist) (ok : SoundIn net) (r : ℕ → ℤ) (legal : LegalAt net r)
+    {k cells rows : ℕ} {kind first operand due begin : List ℕ} (size : k ≡ chosenInAt net r)
     (s : Standing net r k cells rows kind first operand due begin) where
   -- A choice of bits is, where it is looked at, a number below 2 ^ k (`choice-number`).
   pub solved : (found : Bool) (c : ℕ) → Solves k (programOf kind first operand) due (at begin rows) found c → Chooses net r found c

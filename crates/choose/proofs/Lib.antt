@@ -7,7 +7,6 @@ pub mod Sources
 pub mod Programs
 pub mod Compiles
 -- The columns that `cells` and `dues` fill are that program and what is due of it, and a right one.
-pub mod Enters
 pub mod Runs
 pub mod Owing
 pub mod Columns

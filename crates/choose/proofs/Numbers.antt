@@ -1,18 +1,24 @@
 -- The cells, numbered one by one.
+--   lags-more           no lag is above so many clocks, one node further
 --   numbered-none       no cell yet
 --   numbered-miss, numbered-hit    one place further: without a cell, with a cell
 --   numbered-clock      a clock is done
+--   numbered-rest       no lag is above the clocks that are done: all clocks are
 use Prim.Native.Nat.{ℕ, _+_, _*_, _≤_, _<_}
 use native.Mathlib.Omega.{arith}
 use native.Mathlib.Decide.{ℕ-discrete}
 use mathlib.Core.Path.{_≡_, refl, sym, subst, ap, _∙_}
 use mathlib.Core.Logic.{_⊎_, inl, inr, ⊎-elim}
 use mathlib.Core.List.{List}
+use borrow.Author.Count.{below-more}
 use lib.ListN.{length, set, length-set}
 use lib.Seq.{getD-set-same, getD-set-other}
 use Rattle.graph.specs.Columns.{at}
 use Rattle.graph.specs.inner.Sort.{Stands}
-use Rattle.choose.specs.inner.Numbers.{Arranged, EarlierCell, CellNumbered, CellsNumbered}
+use Rattle.choose.specs.inner.Numbers.{lagAt, LagsBelow, Arranged, EarlierCell, CellNumbered, CellsNumbered}
+
+pub lags-more : {lab : List ℕ} {v top new : ℕ} → LagsBelow lab v top → top ≤ new → new ≤ 24 → lagAt lab v ≤ new → LagsBelow lab (v + 1) new
+lags-more s up few here = record { few = few; low = below-more _ _ (λ u h. omega (arith, s .low u h)) here }
 
 module _ (lag : ℕ → ℕ) (order : List ℕ) (nodes : ℕ) where
   pub numbered-none : (id code : List ℕ) → length id ≡ 16384 → length code ≡ 12288 → CellsNumbered lag order nodes 0 0 0 id code
@@ -178,3 +184,24 @@ module _ (lag : ℕ → ℕ) (order : List ℕ) (nodes : ℕ) where
       go : (v k : ℕ) → v < nodes → k < t + 1 → Dec (k ≡ t) → EarlierCell order t nodes v k
       go v k hv l (yes e) = inr (e, o .every-node v hv)
       go v k hv l (no e) = inl (let z : k < t = omega arith in z)
+
+  pub numbered-rest : (t n : ℕ) (id code : List ℕ) → t ≤ 24 → ((v : ℕ) → v < nodes → lag v ≤ t) → CellsNumbered lag order nodes t 0 n id code → CellsNumbered lag order nodes 24 0 n id code
+  numbered-rest t n id code h low s = record {
+    few = omega (arith, s .few);
+    id-rows = s .id-rows;
+    code-rows = s .code-rows;
+    inside = λ v k hv hk b. s .inside v k hv hk (inl (let z : k < t = omega (arith, low v hv) in z));
+    back = λ v k hv hk b. s .back v k hv hk (inl (let z : k < t = omega (arith, low v hv) in z));
+    each = λ i l.
+        let c = s .each i l in
+        record {
+          clock = c .clock;
+          place = c .place;
+          within = c .within;
+          below = c .below;
+          coded = c .coded;
+          number = c .number;
+          done = inl (⊎-elim (λ (a : c .clock < t). (let z : c .clock < 24 = omega arith in z)) (λ (a : (c .clock ≡ t) × (c .place < 0)). absurd (let z : ⊥ = omega arith in z)) (c .done));
+          earlier = c .earlier;
+        };
+  }

@@ -17,15 +17,17 @@ use mathlib.Core.List.{List}
 use borrow.Author.Tests.{lt-ltb, le-ltb}
 use lib.ListN.{length}
 use Rattle.theory.specs.Lag.{up}
-use Rattle.theory.specs.Move.{sum, chosenIn}
+use Rattle.theory.specs.Move.{sum}
 use Rattle.theory.proofs.numbers.Whole.{no-down}
 use Rattle.theory.proofs.numbers.Sums.{sum-within, sum-more, sum-grows}
 use Rattle.theory.proofs.retimer.Levels.{lag-chosen}
 use Rattle.graph.specs.Columns.{at}
-use Rattle.graph.specs.inner.Sort.{group, Ordered}
+use Rattle.graph.specs.inner.Sort.{ByNode, Ordered}
 use Rattle.graph.proofs.Sorted.{sorted-room}
+use Rattle.graph.proofs.ByNode.{sorts-by-node, sorts-width}
 use Rattle.netlist.specs.declared.Netlist.{Netlist}
 use Rattle.netlist.specs.Net.{graphOf, regsOf}
+use Rattle.netlist.specs.Circuit.{chosenInAt}
 use Rattle.netlist.proofs.Run.{fit-wired}
 use Rattle.search.specs.inner.Program.{programOf, RightProgram, Owes, Solves}
 use Rattle.choose.specs.inner.Cells.{Compiled}
@@ -41,7 +43,6 @@ use Rattle.choose.proofs.Arranged.{ordered-arranged}
 use Rattle.choose.proofs.Owing.{owes-cells}
 use Rattle.choose.proofs.Columns.{celled, compiled}
 use Rattle.choose.proofs.Compiles.{compiled-holds, solved}
-use Rattle.choose.proofs.Enters.{width, entered}
 use Rattle.choose.proofs.Widths.{few-operands}
 
 pub record Placed (net : Netlist) (lab counts order id code : List ℕ) (cells : ℕ) : Type 0 where
@@ -53,7 +54,7 @@ module _ {net : Netlist} {lab counts base : List ℕ} {k : ℕ} (ch : Choosing n
   abbrev m : Moving net lab counts
   m = ch .moving
 
-  pub size : k ≡ chosenIn (graphOf net) (regsOf net .count) (lagsOf lab)
+  pub size : k ≡ chosenInAt net (lagsOf lab)
   size = ch .chosen ∙ ch .based (net .edges) (omega arith)
 
   -- No lag is above the number of values chosen.
@@ -119,17 +120,17 @@ module _ {net : Netlist} {lab counts base : List ℕ} {k : ℕ} (ch : Choosing n
         go (no z) = inl (let y : at code i % 32 - at counts e < n .each i h .clock = omega (arith, clock-of i h) in y)
 
     module _ (from-rows : net .edges ≤ length (net .from)) {ins begin : List ℕ} (g : Entering net ins begin) where
-      places : (v : ℕ) → v < net .nodes → (at begin v ≤ at begin (v + 1)) × (at begin (v + 1) ≤ net .edges) × (at begin (v + 1) - at begin v ≡ length (group (net .to) v (net .edges)))
-      places = width (net .to) (net .edges) (net .nodes) (g .old) ins begin (fit-wired net (m .labelled .fit) .dst-in) (g .room) (g .sorts)
+      by-node : ByNode (net .to) (net .nodes) (net .edges) ins begin
+      by-node = sorts-by-node (net .to) (net .nodes) (net .edges) (fit-wired net (m .labelled .fit) .dst-in) (g .room) (g .sorts)
 
       place-edge : (i j : ℕ) → i < cells → at begin (at code i / 32) ≤ j → j < at begin (at code i / 32 + 1) → (at ins j < net .edges) × (at (net .to) (at ins j) ≡ at code i / 32)
-      place-edge i j h = entered (net .to) (net .edges) (net .nodes) (g .old) ins begin (fit-wired net (m .labelled .fit) .dst-in) (g .room) (g .sorts) (at code i / 32) j (node-low i h)
+      place-edge i j h l u = (by-node .edge j (omega (arith, by-node .within (at code i / 32) (node-low i h))), by-node .ends (at code i / 32) j (node-low i h) l u)
 
       pub ready : (i : ℕ) → i < cells → OperandRows (net .from) ins begin counts base id code i
       ready i h = record {
         row = omega (arith, node-low i h, low-nodes net lab (m .labelled), g .begin-rows);
-        rises = places (at code i / 32) (node-low i h) .0;
-        in-rows = omega (arith, places (at code i / 32) (node-low i h) .1, g .ins-rows);
+        rises = by-node .up (at code i / 32) (node-low i h);
+        in-rows = omega (arith, by-node .within (at code i / 32) (node-low i h), g .ins-rows);
         shows = λ j u l. let p = place-edge i j h l u in shown (at ins j) (p .0) (p .1);
       }
         where
@@ -146,7 +147,7 @@ module _ {net : Netlist} {lab counts base : List ℕ} {k : ℕ} (ch : Choosing n
       pub few-places : sum (widthAt begin code) cells ≤ 24576
       few-places =
           few-operands (lagAt lab) order begin id code (net .nodes) (net .edges) cells (arranged (placed .rows) o) low-lag (low-edges net lab (m .labelled)) n
-          (λ v h. places v h .0) (omega (arith, g .sorts .begins (net .nodes) (omega arith), sorted-room (net .to) (net .edges) (net .nodes)))
+          (by-node .up) (omega (arith, g .sorts .begins (net .nodes) (omega arith), sorted-room (net .to) (net .edges) (net .nodes)))
 
       module _ (kind : List ℕ) {rows : ℕ} {first operand due starts : List ℕ} (ks : (i : ℕ) → i < cells → at kind i ≡ at (net .kind) (at code i / 32))
           (os : Operands (net .from) ins begin counts base id code cells first operand) (owes : Owes 12288 due starts rows)
@@ -185,7 +186,7 @@ module _ {net : Netlist} {lab counts base : List ℕ} {k : ℕ} (ch : Choosing n
           first-rows = omega (arith, few-cells);
           gates = λ i h. subst (λ x. x < 10) (sym (ks i h)) (kind-low net (m .labelled .fit) (at code i / 32) (node-low i h));
           rising = λ i h. omega (arith, begins i h);
-          few-ins = λ i h. omega (arith, begins i h, places (at code i / 32) (node-low i h) .2, fan-low net (m .steppable .fans) (at code i / 32) (node-low i h));
+          few-ins = λ i h. omega (arith, begins i h, sorts-width (net .to) (net .nodes) (net .edges) (fit-wired net (m .labelled .fit) .dst-in) (g .room) (g .sorts) (at code i / 32) (node-low i h), fan-low net (m .steppable .fans) (at code i / 32) (node-low i h));
           in-rows = λ i h. omega (arith, begins i h, few-places, sum-more (widthAt begin code) i, sum-grows (widthAt begin code) (i + 1) cells (omega arith));
           earlier = earlier;
         }

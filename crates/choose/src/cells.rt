@@ -1,9 +1,8 @@
 // The program of a moved netlist: a cell for each node of positive lag and each clock below its lag.
 // Private to the crate: `choose` puts them together.
-use crate::LAGS;
 use crate::STRIDE;
 use graph::NODES;
-use graph::by_rank;
+use graph::evaluation_order;
 use lags::up_of;
 use moves::bytes_of;
 use netlist::Netlist;
@@ -15,12 +14,11 @@ ghost use lib.ListN.{length};
 ghost use Rattle.theory.specs.Move.{sum};
 ghost use Rattle.graph.specs.Columns.{at};
 ghost use Rattle.graph.specs.inner.Lists.{Appended};
-ghost use Rattle.choose.specs.inner.Numbers.{lagAt, Arranged, CellsNumbered};
+ghost use Rattle.choose.specs.inner.Numbers.{lagAt, LagsBelow, Arranged, CellsNumbered};
 ghost use Rattle.choose.specs.inner.Sources.{sourceAt, SourceRows, widthAt, OperandRows, Operands};
 ghost use Rattle.moves.specs.inner.Labels.{Labelled, Counts};
-ghost use Rattle.theory.specs.Walk.{Loop};
 ghost use Rattle.graph.specs.inner.Sort.{Ordered};
-ghost use Rattle.netlist.specs.Net.{graphOf, regsOf};
+ghost use Rattle.netlist.specs.Circuit.{LoopIn};
 
 // As codes are held.
 const STRIDE_OF_CODES: u16 = STRIDE as u16;
@@ -59,22 +57,22 @@ fn number_clock(
     n
 }
 
-// All cells are numbered: how many there are.
+// All cells are numbered, those of the clocks below `clocks`, which no lag is above: how many there are.
 pub fn number_cells(
     order: &[u16],
     lab: &[u32],
     nodes: usize,
+    clocks: usize,
     id: &mut [u16],
     code: &mut [u16],
 ) -> usize
-    requires { ⌜ Arranged (now order) nodes × (nodes ≤ length (now lab)) ⌝ }
-    requires { ⌜ ((v : ℕ) → v < nodes → lagAt (now lab) v ≤ 24) ⌝ }
+    requires { ⌜ Arranged (now order) nodes × (nodes ≤ length (now lab)) × LagsBelow (now lab) nodes clocks ⌝ }
     requires { ⌜ (length (now id) ≡ 16384) × (length (now code) ≡ 12288) ⌝ }
     ensures { λ r. ⌜ CellsNumbered (lagAt (now (lab .entry))) (now (order .entry)) nodes 24 0 r (now (id .exit)) (now (code .exit)) ⌝ }
 {
     let mut n = 0;
     let mut t = 0;
-    while t < LAGS {
+    while t < clocks {
         n = number_clock(order, lab, nodes, t, n, id, code);
         t += 1;
     }
@@ -174,11 +172,11 @@ pub fn operands_of(
 pub fn order_of(net: Netlist, lab: &[u32], counts: &[u32]) -> [u16; NODES]
     requires { ⌜ Labelled net (now lab) × Counts net (now lab) (now counts) × (net .edges ≤ length (now counts)) ⌝ }
     requires { ⌜ ((e : ℕ) → e < net .edges → at (now counts) e ≤ 32) ⌝ }
-    requires { ⌜ ¬ Loop (graphOf net) (regsOf net .count) ⌝ }
+    requires { ⌜ ¬ LoopIn net ⌝ }
     ensures { λ r. ⌜ Ordered (net .nodes) (net .edges) (net .from) (net .to) (now (counts .entry)) r ⌝ }
 {
     let nodes = net.nodes as usize;
     let edges = net.edges as usize;
     let bytes = bytes_of(counts, edges);
-    by_rank(&net.from, &net.to, &bytes, nodes, edges)
+    evaluation_order(&net.from, &net.to, &bytes, nodes, edges)
 }

@@ -4,6 +4,7 @@ use crate::CELLS;
 use crate::CODES;
 use crate::Choice;
 use crate::DUES;
+use crate::LAGS;
 use crate::OPERANDS;
 use crate::ROWS;
 use crate::cells::number_cells;
@@ -15,13 +16,17 @@ use crate::words::words_of;
 use graph::EDGES;
 use graph::NODES;
 use graph::sort_by;
+use lags::up_of;
 use netlist::Netlist;
 use solve::solve;
 ghost use mathlib.Core.Path.{_≡_};
+ghost use mathlib.Core.Bool.{true};
+ghost use Prim.Native.Nat.{_≤_};
 ghost use lib.ListN.{length};
 ghost use Rattle.graph.specs.Columns.{at};
 ghost use Rattle.moves.specs.inner.Labels.{lagsOf};
 ghost use Rattle.moves.specs.inner.Moving.{Choosing};
+ghost use Rattle.choose.specs.inner.Numbers.{LagsBelow};
 ghost use Rattle.choose.specs.inner.Wires.{Chooses, Wirable, Wires, Standing};
 ghost use Rattle.choose.specs.inner.Chosen.{Chosen};
 
@@ -71,38 +76,39 @@ fn compile(
     lab: &[u32],
     counts: &[u32],
     base: &[u32],
+    clocks: usize,
     kind: &mut [u8],
     first: &mut [u16],
     operand: &mut [u16],
     due: &mut [u16],
     begin: &mut [u16],
 ) -> Compiled
-    requires { ⌜ Choosing net (now lab) (now counts) (now base) (at (now base) (net .edges)) ⌝ }
+    requires { ⌜ Choosing net (now lab) (now counts) (now base) (at (now base) (net .edges)) × LagsBelow (now lab) (net .nodes) clocks ⌝ }
     requires { ⌜ (length (now kind) ≡ 12288) × (length (now first) ≡ 12289) × (length (now operand) ≡ 24576) × (length (now due) ≡ 24576) × (length (now begin) ≡ 5121) ⌝ }
     ensures { λ r. ⌜ Standing net (lagsOf (now (lab .entry))) (at (now (base .entry)) (net .edges)) (r .cells) (r .rows) (now (kind .exit)) (now (first .exit)) (now (operand .exit)) (now (due .exit)) (now (begin .exit)) ⌝ }
 {
     let order = order_of(net, lab, counts);
     let mut id = [0u16; CODES];
     let mut code = [0u16; CELLS];
-    let cells = number_cells(&order, lab, net.nodes as usize, &mut id, &mut code);
+    let cells = number_cells(&order, lab, net.nodes as usize, clocks, &mut id, &mut code);
     put_kinds(&net.kind, &code, cells, kind);
     wire(net, counts, base, &id, &code, cells, first, operand);
     let rows = dues_of(net, lab, &order, &id, due, begin);
     Compiled { cells, rows }
 }
 
-// The smallest choice that carries the start, or that none does.
-// Where nothing is chosen no lag is positive, so nothing is to be carried, and the empty choice is the only one.
-fn best(net: Netlist, lab: &[u32], counts: &[u32], base: &[u32], k: u32) -> search::Choice
-    requires { ⌜ Choosing net (now lab) (now counts) (now base) k ⌝ }
+// The smallest choice that carries the start, or that none does. No lag is above `clocks`.
+fn searched(
+    net: Netlist,
+    lab: &[u32],
+    counts: &[u32],
+    base: &[u32],
+    k: u32,
+    clocks: usize,
+) -> search::Choice
+    requires { ⌜ Choosing net (now lab) (now counts) (now base) k × LagsBelow (now lab) (net .nodes) clocks ⌝ }
     ensures { λ r. ⌜ Chooses net (lagsOf (now (lab .entry))) (r .found) (r .choice) ⌝ }
 {
-    if k == 0 {
-        return search::Choice {
-            found: true,
-            choice: 0,
-        };
-    }
     let mut kind = [0u8; CELLS];
     let mut first = [0u16; CELLS + 1];
     let mut operand = [0u16; OPERANDS];
@@ -113,6 +119,7 @@ fn best(net: Netlist, lab: &[u32], counts: &[u32], base: &[u32], k: u32) -> sear
         lab,
         counts,
         base,
+        clocks,
         &mut kind,
         &mut first,
         &mut operand,
@@ -122,6 +129,40 @@ fn best(net: Netlist, lab: &[u32], counts: &[u32], base: &[u32], k: u32) -> sear
     let cells = made.cells;
     let rows = made.rows;
     solve(&kind, &first, &operand, cells, k, &mut due, &begin, rows)
+}
+
+// Whether no lag is above 1: then a cell of the search is a node.
+fn below_two(lab: &[u32], nodes: usize) -> bool
+    requires { ⌜ nodes ≤ length (now lab) ⌝ }
+    ensures { λ r. ⌜ (r ≡ true → LagsBelow (now (lab .entry)) nodes 1) ⌝ }
+{
+    let mut v = 0;
+    while v < nodes {
+        if 1 < up_of(lab[v]) {
+            return false;
+        }
+        v += 1;
+    }
+    true
+}
+
+// The smallest choice that carries the start, or that none does.
+// Where nothing is chosen no lag is positive, so nothing is to be carried, and the empty choice is the only one.
+// The search is called at two places, so that its columns stand in a frame of their own: a frame is touched page by page when its function is entered.
+fn best(net: Netlist, lab: &[u32], counts: &[u32], base: &[u32], k: u32) -> search::Choice
+    requires { ⌜ Choosing net (now lab) (now counts) (now base) k ⌝ }
+    ensures { λ r. ⌜ Chooses net (lagsOf (now (lab .entry))) (r .found) (r .choice) ⌝ }
+{
+    if k == 0 {
+        return search::Choice {
+            found: true,
+            choice: 0,
+        };
+    }
+    if below_two(lab, net.nodes as usize) {
+        return searched(net, lab, counts, base, k, 1);
+    }
+    searched(net, lab, counts, base, k, LAGS)
 }
 
 // The chosen start values: those of the smallest choice that carries the start.

@@ -12,7 +12,7 @@ ghost use Rattle.graph.specs.Columns.{at};
 ghost use Rattle.graph.specs.inner.Sort.{EachEdge};
 ghost use Rattle.search.specs.inner.Program.{Owes};
 ghost use Rattle.moves.specs.inner.Labels.{Labelled};
-ghost use Rattle.choose.specs.inner.Numbers.{lagAt, Arranged};
+ghost use Rattle.choose.specs.inner.Numbers.{lagAt, LagsBelow, Arranged};
 ghost use Rattle.graph.specs.inner.Lists.{Appended};
 ghost use Rattle.choose.specs.inner.Dues.{cellAt, Dues, dueAt, Celled, DuesTo};
 
@@ -62,8 +62,8 @@ fn append_dues(
 
 // The largest lag.
 fn top_of(lab: &[u32], nodes: usize) -> u32
-    requires { ⌜ (nodes ≤ 512) × (nodes ≤ length (now lab)) × ((v : ℕ) → v < nodes → lagAt (now lab) v ≤ 24) ⌝ }
-    ensures { λ r. ⌜ (r ≤ 24) × ((v : ℕ) → v < nodes → lagAt (now (lab .entry)) v ≤ r) ⌝ }
+    requires { ⌜ (nodes ≤ 512) × (nodes ≤ length (now lab)) × LagsBelow (now lab) nodes 24 ⌝ }
+    ensures { λ r. ⌜ LagsBelow (now (lab .entry)) nodes r ⌝ }
 {
     let mut top = 0;
     let mut v = 0;

@@ -3,14 +3,12 @@
 --   framed-bad, framed-line      what the record says of the line
 --   placed-room, placed-full     a line written where there is room, and where there is none
 --   length-placed                the buffer keeps its length
---   sets-sets                    two writes in a row
 use mathlib.Core.Path.{_≡_, refl, ap}
 use mathlib.Core.Bool.{Bool, true, false, cond}
-use mathlib.Core.List.{List, [], _∷_, _++_}
-use Prim.Native.Nat.{ℕ, suc, _+_, _-_, _≤_, _<_}
-use native.Mathlib.Omega.{arith}
+use mathlib.Core.List.{List, _++_}
+use Prim.Native.Nat.{ℕ, _+_, _-_, _≤_, _<_}
 use lib.Dec.{leb}
-use lib.ListN.{length, set, replicate}
+use lib.ListN.{length, replicate}
 use lib.Seq.{sets, length-sets}
 use borrow.Author.Tests.{le-leb, lt-leb}
 use Rattle.frame.specs.Frame.{Line, bad, line, frameAt, placed}
@@ -54,8 +52,3 @@ length-placed l at vs = go (leb (at + length vs) (length l))
     go : (t : Bool) → length (cond t (sets l at vs) l) ≡ length l
     go true = length-sets l at vs
     go false = refl
-
--- Two runs of stores, one after the other.
-pub sets-sets : (vs ws l : List ℕ) (i j : ℕ) → j ≡ i + length vs → sets (sets l i vs) j ws ≡ sets l i (vs ++ ws)
-sets-sets [] ws l i j e = let f : j ≡ i = omega arith in rw f
-sets-sets (v ∷ vs) ws l i j e = sets-sets vs ws (set l i v) (suc i) j (omega arith)

@@ -2,19 +2,23 @@
 --   clash                        two constructors are never equal: `clash (cc)`
 --   within-true                  a test that holds
 --   digit-char, char-digit       a digit reads as its value, and is written from it
+--   char-small, digit-most       a digit is a byte; a value is at most 16
+--   Entered d table              the table of the digits below d; entered-none, entered-more, entered-all
 --   digits a b, digits-true      both are digits
 --   byte-good, byte-digits       a byte's value where both are digits; below 256 only there
 --   byte-hex, byte-written       a byte is written with the digits that it is read from, and read from those that it is written with
-use mathlib.Core.Path.{_≡_, refl}
+use mathlib.Core.Path.{_≡_, refl, ap, sym, _∙_}
 use mathlib.Core.Bool.{Bool, true, false, cond}
-use mathlib.Core.List.{[], _∷_}
+use mathlib.Core.List.{List, [], _∷_}
 use Prim.Native.Nat.{ℕ, _+_, _-_, _*_, _/_, _%_, _≤_, _<_}
 use native.Mathlib.Omega.{arith}
-use native.Mathlib.Decide.{decLt}
+use native.Mathlib.Decide.{decLt, ℕ-discrete}
 use lib.Dec.{ltb, leb}
+use lib.ListN.{length, getD, set, replicate, length-set, getD-replicate}
+use lib.Seq.{getD-set-same, getD-set-other}
 use borrow.Author.Tests.{ltb-true, leb-true, lt-ltb, le-ltb, le-leb, lt-leb}
 use Rattle.frame.specs.Frame.{within, digitOf, charOf, hexOf}
-use Rattle.frame.specs.inner.Decoded.{pairOf}
+use Rattle.frame.specs.inner.Decoded.{Digits, pairOf}
 
 pub clash : {A : Type 0} → _≡_ {A = ℕ} 0 1 → A
 clash e = absurd (omega arith)
@@ -44,6 +48,65 @@ digit-char d h = go (decLt d 10)
     go (no l) =
         let g : 10 ≤ d = omega arith in
         rw (le-ltb d 10 g, lt-leb (d + 55) 57 (omega arith), le-leb 48 (d + 55) (omega arith), le-leb 65 (d + 55) (omega arith), le-leb (d + 55) 70 (omega arith)) (omega arith)
+
+char-small : (d : ℕ) → d < 16 → charOf d < 256
+unfolding charOf
+char-small d h = go (ltb d 10)
+  where
+    go : (t : Bool) → cond t (d + 48) (d + 55) < 256
+    go true = omega arith
+    go false = omega arith
+
+digit-most : (c : ℕ) → digitOf c ≤ 16
+unfolding digitOf
+digit-most c = go (within 48 57 c) (within 65 70 c) refl refl
+  where
+    go : (s t : Bool) → within 48 57 c ≡ s → within 65 70 c ≡ t → cond s (c - 48) (cond t (c - 55) 16) ≤ 16
+    go true t p q = omega (arith, within-true 48 57 c p)
+    go false true p q = omega (arith, within-true 65 70 c q)
+    go false false p q = omega arith
+
+-- ── The table of digits ─────────────────────────────────────────────────────────────────────
+
+-- Each digit below d stands at its byte; every other byte has 16.
+pub record Entered (d : ℕ) (table : List ℕ) : Type 0 where
+  pub size : length table ≡ 256
+  pub values : (c : ℕ) → c < 256 → digitOf c < d → getD table c 0 ≡ digitOf c
+  pub others : (c : ℕ) → c < 256 → d ≤ digitOf c → getD table c 0 ≡ 16
+
+pub entered-none : Entered 0 (replicate 256 16)
+entered-none =
+    record {
+      size = refl;
+      values = λ c h l. absurd (let z : ⊥ = omega arith in z);
+      others = λ c h l. getD-replicate 256 c 16 0 h;
+    }
+
+module _ (d : ℕ) (table : List ℕ) (e : Entered d table) where
+  pub entered-more : d < 16 → Entered (d + 1) (set table (charOf d) d)
+  entered-more h =
+      record {
+        size = length-set table (charOf d) d ∙ e .size;
+        values = λ c b l. go c b (ℕ-discrete c (charOf d)) l;
+        others = λ c b l. getD-set-other table (charOf d) c d 0 (λ q. let z = here c q in let w : ⊥ = omega arith in w) ∙ e .others c b (omega arith);
+      }
+    where
+      -- The byte of d is a digit, of value d.
+      here : (c : ℕ) → c ≡ charOf d → digitOf c ≡ d
+      here c q = ap digitOf q ∙ digit-char d h
+
+      go : (c : ℕ) → c < 256 → Dec (c ≡ charOf d) → digitOf c < d + 1 → getD (set table (charOf d) d) c 0 ≡ digitOf c
+      go c b (yes q) l = ap (λ x. getD (set table (charOf d) d) x 0) q ∙ getD-set-same table (charOf d) d 0 (omega (arith, e .size, char-small d h)) ∙ sym (here c q)
+      go c b (no q) l =
+          let other : digitOf c ≡ d → ⊥ = λ f. q (sym (char-digit c (omega arith)) ∙ ap charOf f) in
+          getD-set-other table (charOf d) c d 0 q ∙ e .values c b (omega arith)
+
+  pub entered-all : d ≡ 16 → Digits table
+  entered-all h = record { size = e .size; values = λ c b. go c b (decLt (digitOf c) 16) }
+    where
+      go : (c : ℕ) → c < 256 → Dec (digitOf c < 16) → getD table c 0 ≡ digitOf c
+      go c b (yes l) = e .values c b (omega arith)
+      go c b (no l) = e .others c b (omega arith) ∙ omega (arith, digit-most c)
 
 -- ── A byte of two digits ────────────────────────────────────────────────────────────────────
 

@@ -14,7 +14,8 @@ use Rattle.frame.specs.declared.Frame.{Frame}
 use Rattle.frame.specs.Frame.{Line, bad, line, with-byte, lineAt, of-kind, frameAt, hexOf, lineOf, placed}
 use Rattle.frame.specs.inner.Decoded.{pairOf, decoded, framed}
 use Rattle.frame.proofs.Laws.{line-more, line-none, line-rest, length-hex, length-line}
-use Rattle.frame.proofs.Buffers.{framed-decoded, placed-room, placed-full, sets-sets}
+use Rattle.theory.proofs.numbers.Stores.{sets-sets}
+use Rattle.frame.proofs.Buffers.{framed-decoded, placed-room, placed-full}
 
 -- ── Read ────────────────────────────────────────────────────────────────────────────────────
 

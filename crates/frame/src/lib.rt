@@ -5,32 +5,13 @@ ghost use mathlib.Core.List.{_∷_, []};
 ghost use Prim.Native.Nat.{_+_, _*_, _<_, _≤_};
 ghost use lib.ListN.{length, take, drop};
 ghost use lib.Seq.{sets};
-ghost use Rattle.frame.specs.Frame.{digitOf, lineAt, bad, charOf, hexOf, lineOf, placed};
-ghost use Rattle.frame.specs.inner.Decoded.{pairOf, decoded, framed};
+ghost use Rattle.frame.specs.Frame.{lineAt, bad, charOf, hexOf, lineOf, placed};
+ghost use Rattle.frame.specs.inner.Decoded.{Digits, pairOf, decoded, framed};
 
 // A line's bytes after its kind, or `ok` false. Bytes past the line's are 0.
 pub struct Frame {
     pub ok: bool,
     pub bytes: [u8; 16],
-}
-
-// The value of a hex digit, 0-9 A-F; 16 for any other byte.
-fn digit(c: u8) -> u8
-    ensures { λ r. ⌜ r ≡ digitOf c ⌝ }
-{
-    if c < 48 {
-        return 16;
-    }
-    if c <= 57 {
-        return c - 48;
-    }
-    if c < 65 {
-        return 16;
-    }
-    if c <= 70 {
-        return c - 55;
-    }
-    16
 }
 
 // The digit of a value below 16.
@@ -41,12 +22,26 @@ fn char_of(d: u8) -> u8
     if d < 10 { d + 48 } else { d + 55 }
 }
 
-// The byte of two digits; 256 where one of them is no digit.
-fn byte(high: u8, low: u8) -> u16
-    ensures { λ r. ⌜ r ≡ pairOf high low ⌝ }
+// The table of digits: each byte's value as a hex digit, 0-9 A-F, and 16 for any other byte. It is made once for many lines, so that a digit is looked up.
+pub fn digit_table() -> [u8; 256]
+    ensures { λ r. ⌜ Digits r ⌝ }
 {
-    let h = digit(high);
-    let l = digit(low);
+    let mut table = [16u8; 256];
+    let mut d = 0;
+    while d < 16 {
+        table[char_of(d) as usize] = d;
+        d += 1;
+    }
+    table
+}
+
+// The byte of two digits; 256 where one of them is no digit.
+fn byte(table: &[u8], high: u8, low: u8) -> u16
+    requires { ⌜ length (now table) ≡ 256 ⌝ }
+    ensures { λ r. ⌜ (Digits (now (table .entry)) → r ≡ pairOf high low) ⌝ }
+{
+    let h = table[high as usize];
+    let l = table[low as usize];
     if 16 <= h {
         return 256;
     }
@@ -67,14 +62,14 @@ fn none() -> Frame
 }
 
 // The line of `n` bytes at `at`, where there is room for one.
-fn line_at(text: &[u8], at: usize, n: usize) -> Frame
-    requires { ⌜ (n ≤ 16) × (at + (2 * n + 1) ≤ length (now text)) ⌝ }
-    ensures { λ r. ⌜ r ≡ decoded (lineAt n (drop at (now (text .entry)))) ⌝ }
+fn line_at(table: &[u8], text: &[u8], at: usize, n: usize) -> Frame
+    requires { ⌜ (length (now table) ≡ 256) × (n ≤ 16) × (at + (2 * n + 1) ≤ length (now text)) ⌝ }
+    ensures { λ r. ⌜ (Digits (now (table .entry)) → r ≡ decoded (lineAt n (drop at (now (text .entry))))) ⌝ }
 {
     let mut bytes = [0u8; 16];
     let mut i = 0;
     while i < n {
-        let b = byte(text[at + 2 * i], text[at + 2 * i + 1]);
+        let b = byte(table, text[at + 2 * i], text[at + 2 * i + 1]);
         if 255 < b {
             return none();
         }
@@ -87,10 +82,13 @@ fn line_at(text: &[u8], at: usize, n: usize) -> Frame
     Frame { ok: true, bytes }
 }
 
-// The line of kind `kind` with `n` more bytes at `at`, or `ok` false.
-pub fn frame_at(text: &[u8], at: usize, kind: u8, n: usize) -> Frame
-    ensures { λ r. ⌜ r ≡ framed kind n (drop at (now (text .entry))) ⌝ }
+// The line of kind `kind` with `n` more bytes at `at`, or `ok` false, by a table that `digit_table` made; by any other nothing is promised.
+pub fn frame_by(table: &[u8], text: &[u8], at: usize, kind: u8, n: usize) -> Frame
+    ensures { λ r. ⌜ (Digits (now (table .entry)) → r ≡ framed kind n (drop at (now (text .entry)))) ⌝ }
 {
+    if table.len() != 256 {
+        return none();
+    }
     if 16 < n {
         return none();
     }
@@ -100,11 +98,19 @@ pub fn frame_at(text: &[u8], at: usize, kind: u8, n: usize) -> Frame
     if text.len() - at < 2 * n + 3 {
         return none();
     }
-    let b = byte(text[at], text[at + 1]);
+    let b = byte(table, text[at], text[at + 1]);
     if b != kind as u16 {
         return none();
     }
-    line_at(text, at + 2, n)
+    line_at(table, text, at + 2, n)
+}
+
+// The same of one line, by a table of its own.
+pub fn frame_at(text: &[u8], at: usize, kind: u8, n: usize) -> Frame
+    ensures { λ r. ⌜ r ≡ framed kind n (drop at (now (text .entry))) ⌝ }
+{
+    let table = digit_table();
+    frame_by(&table, text, at, kind, n)
 }
 
 // A byte's two digits at `at`, where there is room.

@@ -18,7 +18,7 @@ use lib.ListN.{length, take, drop, length-take, length-drop}
 use lib.Seq.{drop-cons, getD-take, getD-drop}
 use Rattle.theory.specs.Gate.{ones as total, gateBy, gate}
 use Rattle.graph.specs.Columns.{at, bit}
-use Rattle.gates.specs.inner.Gates.{part, AllBits, wordFrom, worked, Reckons}
+use Rattle.gates.specs.inner.Gates.{part, AllBits, wordFrom, worked, Narrow, Reckons}
 use Rattle.gates.proofs.Spelt.{Spelt}
 
 -- ── Parts of a list ─────────────────────────────────────────────────────────────────────────
@@ -56,7 +56,7 @@ pub word-wider : (seed word m n : ℕ) → word < suc seed * 2 ^ m → m ≤ n �
 word-wider seed word m n h l = omega (arith, mul-le-mul-left (suc seed) (pow-mono {i = m} {j = n} l))
 
 -- `gather` is asked with the seed alone, as a truth word that has nothing below it.
-pub seed-narrow : (seed n : ℕ) → suc (seed * 512 / 512) * 2 ^ n ≤ 256 → suc seed * 2 ^ n ≤ 256
+pub seed-narrow : (seed n : ℕ) → Narrow (seed * 512) n → suc seed * 2 ^ n ≤ 256
 seed-narrow seed n h = subst (λ d. suc d * 2 ^ n ≤ 256) (let z : seed * 512 / 512 ≡ seed = omega arith in z) h
 
 ones-bit : (x : ℕ) → x ≤ 1 → ones x ≡ x

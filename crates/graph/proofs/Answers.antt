@@ -1,11 +1,7 @@
 -- What arrival times say of loops and of reach.
 --   laid-wired          the columns' graph is wired
---   small-asked         the engine takes delays of 0 and 1 and labels 0
 --   same-at             each number of a column that repeats one
---   times-low           delays 1, labels 0, the period the number of nodes, and no loop without a register: no time is above that number
---   times-rise          then the times rise along each edge without a register
 --   loop-told           delays 1, labels 0, the period the number of nodes: some time is above it where there is a loop without a register
---   mark-low            a mark is 0 or 1
 --   from-told           delays 1 at pins and 0 elsewhere, no registers, the period 0: the time is 1 where a pin reaches the node
 use Prim.Native.Nat.{ℕ, suc, _≤_, _<_}
 use native.Mathlib.Omega.{arith}
@@ -15,7 +11,7 @@ use mathlib.Core.Bool.{Bool, true, false}
 use mathlib.Core.List.{List}
 use borrow.Author.Tests.{eq-eqb, ne-eqb}
 use lib.Dec.{eqb}
-use lib.ListN.{length, replicate, getD-replicate}
+use lib.ListN.{replicate, getD-replicate}
 use Rattle.theory.specs.Graph.{Graph, Wired}
 use Rattle.theory.specs.Walk.{Walk, one, more, registers, delays, walkSteps, Loop}
 use Rattle.theory.specs.inner.Labels.{Empty, Chain}
@@ -24,26 +20,11 @@ use Rattle.theory.proofs.walks.Loops.{long-loop, rank-no-loop}
 use Rattle.theory.proofs.walks.Walks.{walk-start}
 use Rattle.graph.specs.Columns.{at, columnGraph}
 use Rattle.graph.specs.inner.Laid.{From, Told, Laid}
-use Rattle.graph.specs.inner.Chains.{ChainColumns}
-use Rattle.graph.specs.inner.Marks.{Above, oneIf, markOf}
+use Rattle.graph.specs.inner.Marks.{Above, markOf}
 
 -- What the columns promise is what walks ask.
 pub laid-wired : {nodes edges : ℕ} {from to : List ℕ} → Laid nodes edges from to → (kind : List ℕ) → Wired (columnGraph nodes edges kind from to)
 laid-wired f kind = record { src-in = f .from-in; dst-in = f .to-in }
-
--- The engine takes columns of 512 numbers for the delays, of 0 and 1, and for the labels, all 0.
-pub small-asked : {nodes edges : ℕ} {from to count delay lab : List ℕ} {period : ℕ} → Laid nodes edges from to → edges ≤ length count
-    → length delay ≡ 512 → ((v : ℕ) → v < nodes → at delay v ≤ 1) → length lab ≡ 512 → ((v : ℕ) → v < nodes → at lab v ≡ 0) → period ≤ 512
-    → ChainColumns nodes edges from to count delay lab period
-small-asked f n d ds l ls p = record {
-  laid = f;
-  count-rows = n;
-  delay-rows = omega (arith, f .nodes-fit);
-  lab-rows = omega (arith, f .nodes-fit);
-  lab-small = λ v h. omega (arith, ls v h);
-  delay-small = λ v h. omega (arith, ds v h);
-  period-small = omega arith;
-}
 
 -- A column of m numbers that are all x.
 pub same-at : (m x : ℕ) {n : ℕ} → n ≤ m → (v : ℕ) → v < n → at (replicate m x) v ≡ x
@@ -73,15 +54,8 @@ module _ {G : Graph} (w : Wired G) (count delay lab : ℕ → ℕ) (d : Even G d
       let r = a .reached v h in
       long-loop w count (r .walk) (chain-bare (r .walk) (r .chain)) (omega (arith, r .enough, chain-nodes (r .walk)))
 
-  pub times-low : (time : List ℕ) → Arrival G count delay (G .nodes) lab (at time) → ¬ Loop G count → (v : ℕ) → v < G .nodes → at time v ≤ G .nodes
-  times-low time a n v h = go (decLt (G .nodes) (at time v))
-    where
-      go : Dec (G .nodes < at time v) → at time v ≤ G .nodes
-      go (yes l) = absurd (n (high-loop time a v h l))
-      go (no l) = omega arith
-
   -- The chain that reaches an edge's start goes on to its end.
-  pub times-rise : (time : List ℕ) → Arrival G count delay (G .nodes) lab (at time) → ((v : ℕ) → v < G .nodes → at time v ≤ G .nodes)
+  times-rise : (time : List ℕ) → Arrival G count delay (G .nodes) lab (at time) → ((v : ℕ) → v < G .nodes → at time v ≤ G .nodes)
       → (e : ℕ) → e < G .edges → count e ≡ 0 → at time (G .src e) < at time (G .dst e)
   unfolding Chain delays
   times-rise time a low e h q =
@@ -108,13 +82,6 @@ module _ {G : Graph} (w : Wired G) (count delay lab : ℕ → ℕ) (d : Even G d
           go (no l) = omega arith
 
 -- ── Reach ───────────────────────────────────────────────────────────────────────────────────
-
-pub mark-low : (kind pin : ℕ) → markOf kind pin ≤ 1
-mark-low kind pin = go (eqb kind pin)
-  where
-    go : (b : Bool) → oneIf b ≤ 1
-    go true = omega arith
-    go false = omega arith
 
 module _ {G : Graph} (w : Wired G) (count delay lab : ℕ → ℕ) (pin : ℕ) (n : (e : ℕ) → e < G .edges → count e ≡ 0) (z : Even G lab 0)
     (m : (v : ℕ) → v < G .nodes → delay v ≡ markOf (G .kind v) pin) where

@@ -1,5 +1,3 @@
--- A sweep, edge by edge.
-pub mod Steps
 -- Stores into lists; lists that loops fill; parts of lists.
 pub mod Sets
 pub mod Fills
@@ -8,9 +6,16 @@ pub mod Parts
 pub mod Answers
 -- Items by key: laws, and the loops that put them in their places.
 pub mod Sorted
-pub mod Edges
+pub mod ByNode
 pub mod Placing
--- Nodes by rank.
-pub mod Ranks
+-- Lists without repeats.
+pub mod Once
+-- Reach in passes: marks that spread, passes.
+pub mod Spread
+pub mod Passes
+-- The evaluation order.
+pub mod Stage
+pub mod Taking
+pub mod Evaluation
 -- For users: reach from inputs and to outputs; loops.
 pub mod Laws

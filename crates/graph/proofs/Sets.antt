@@ -1,11 +1,10 @@
 -- Stores into a list.
 --   set-stands          a store at n changes nothing below n
 --   sets-at, sets-past  what a run of stores from the front on leaves at its places and past them
---   sets-sets           two runs of stores, one after the other
-use Prim.Native.Nat.{ℕ, suc, _+_, _-_, _≤_, _<_}
+use Prim.Native.Nat.{ℕ, _+_, _-_, _≤_, _<_}
 use native.Mathlib.Omega.{arith}
 use mathlib.Core.Path.{_≡_, ap, _∙_}
-use mathlib.Core.List.{List, [], _∷_, _++_}
+use mathlib.Core.List.{List, _++_}
 use lib.ListN.{length, set, drop, List·getD-append}
 use lib.Seq.{sets, sets-eq, getD-set-other, getD-append-add, getD-drop}
 use Rattle.graph.specs.Columns.{at}
@@ -27,7 +26,3 @@ sets-past xs old p h l =
     let e : p ≡ length xs + (p - length xs) = omega arith in
     ap (λ ys. at ys p) (sets-eq xs old 0 (omega arith)) ∙ ap (at (xs ++ rest)) e
     ∙ getD-append-add xs rest (p - length xs) 0 ∙ getD-drop (0 + length xs) old (p - length xs) 0 ∙ ap (at old) (let y : 0 + length xs + (p - length xs) ≡ p = omega arith in y)
-
-pub sets-sets : (vs ws l : List ℕ) (i j : ℕ) → j ≡ i + length vs → sets (sets l i vs) j ws ≡ sets l i (vs ++ ws)
-sets-sets [] ws l i j e = let f : j ≡ i = omega arith in rw f
-sets-sets (v ∷ vs) ws l i j e = sets-sets vs ws (set l i v) (suc i) j (omega arith)

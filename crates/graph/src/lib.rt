@@ -1,18 +1,17 @@
-// Algorithms over a graph in columns that the caller lends: fan-in, longest chains, loops, reach, evaluation order.
+// Algorithms over a graph in columns that the caller lends: fan-in, reach, loops, evaluation order.
 // Internal: its functions ask of the caller (`requires`) what the netlist crate has checked.
 mod along;
-mod chains;
+mod layers;
+mod order;
 mod reach;
 mod sort;
 
 pub use along::edges_along;
-pub use chains::settle;
-pub use chains::settle_along;
+pub use layers::reached;
+pub use order::evaluation_order;
+pub use order::looped;
 pub use reach::any_above;
 pub use reach::fan_ins;
-pub use reach::looped;
-pub use reach::reached;
-pub use sort::by_rank;
 pub use sort::sort_by;
 
 // How many nodes and edges a netlist has at most: the lengths of all columns.

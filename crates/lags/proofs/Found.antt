@@ -10,7 +10,6 @@ use mathlib.Core.Path.{_≡_, subst}
 use mathlib.Core.Bool.{true, false}
 use mathlib.Core.List.{List}
 use lib.ListN.{length}
-use Rattle.theory.specs.Graph.{Pin}
 use Rattle.theory.specs.inner.Labels.{LegalLabels, LeastLabels}
 use Rattle.theory.specs.inner.Arrival.{FromPin, Infeasible}
 use Rattle.theory.proofs.labels.Start.{from-pin}
@@ -20,12 +19,13 @@ use Rattle.graph.specs.Columns.{at}
 use Rattle.graph.specs.inner.Marks.{Above}
 use Rattle.netlist.specs.declared.Netlist.{Netlist}
 use Rattle.netlist.specs.Net.{graphOf, regsOf, delayOf}
+use Rattle.netlist.specs.inner.Words.{PinIn}
 use Rattle.netlist.proofs.Fits.{clash}
-use Rattle.netlist.proofs.Lowest.{few}
-use Rattle.netlist.proofs.Run.{fit-wired}
+use Rattle.netlist.proofs.Run.{fit-rows, fit-wired}
 use Rattle.lags.specs.declared.Labels.{Labels}
 use Rattle.lags.specs.inner.Lags.{lagOf, Sure, Leasts}
-use Rattle.lags.specs.inner.Climb.{labelOf, timeOf, Climbing, Takes, on, anew, Rests, Marked}
+use Rattle.lags.specs.inner.Wires.{Basis}
+use Rattle.lags.specs.inner.Climb.{labelOf, timeOf, Takes, on, anew, Rests, Marked}
 use Rattle.lags.proofs.Laws.{lag-label}
 use Rattle.lags.proofs.Starts.{near-pin}
 use Rattle.lags.proofs.Sweeps.{floor-pin}
@@ -48,7 +48,7 @@ module _ {P d a m : ℕ} where
 near : (net : Netlist) → Sure net → (v : ℕ) → v < net .nodes → FromPin (graphOf net) (regsOf net .count) v 16384
 near net s v h = go (decLe (at (net .kind) v) 1)
   where
-    go : Dec (Pin (graphOf net) v) → FromPin (graphOf net) (regsOf net .count) v 16384
+    go : Dec (PinIn net v) → FromPin (graphOf net) (regsOf net .count) v 16384
     go (yes p) =
         let t = from-pin {G = graphOf net} {count = regsOf net .count} v h p in
         record { from = t .from; pin = t .pin; walk = t .walk; few = omega (arith, t .few) }
@@ -67,10 +67,10 @@ pub climb-none : (net : Netlist) (P : ℕ) → Sure net → (r : Labels) → r .
 climb-none net P s r e z n = record {
   least = λ q. clash (cc);
   none = λ _. none-lags (fit-wired net (s .fit)) (at (net .count)) (delayOf net) 16384 P (near net s) n;
-  small = λ v h. omega (arith, z v (omega (arith, few net (s .fit))));
+  small = λ v h. omega (arith, z v (omega (arith, fit-rows net (s .fit) .0)));
 }
 
-module _ {net : Netlist} {P : ℕ} {ins first order delay : List ℕ} (w : Climbing net P ins first order delay) where
+module _ {net : Netlist} {P : ℕ} {ins first delay : List ℕ} (w : Basis net P ins first delay) where
   pub climb-slow : Above delay (net .nodes) P → Infeasible (graphOf net) (regsOf net .count) (delayOf net) 16384 P
   climb-slow t = slow-node (at (net .count)) (delayOf net) 16384 P (t .node) (t .within) (omega (arith, t .above, w .delayed .exact (t .node) (t .within)))
 
@@ -88,7 +88,7 @@ module _ {net : Netlist} {P : ℕ} {ins first order delay : List ℕ} (w : Climb
     asks : (e : ℕ) (h : e < net .edges) → at mark (at (net .from) e) ≤ rests (at (net .to) e) (end-in e h) .best + at (net .count) e * 1048576
     asks e h =
         let t = rests (at (net .to) e) (end-in e h) in
-        let k = w .wires .stands e h in
+        let k = w .wires .by-node .stands e h in
         subst (λ x. at mark (at (net .from) x) ≤ t .best + at (net .count) x * 1048576) (k .3) (t .asked .above (k .0) (k .2) (k .1))
 
     found-legal : LegalLabels (graphOf net) (at (net .count)) 16384 (λ v. labelOf (at mark v))

@@ -1,17 +1,16 @@
 -- Rounds: what one does to the labels, and the ways in which the search ends.
---   product-small       a delay times a derate
 --   Lifting             what holds in `raise` before node v
 --   lift-late, lift-kept, lift-end      a late node; one that is not late; after the last node
 --   Searching           what holds before each round
+--   search-start        before the first round
 --   search-few          there are 512 nodes at most
 --   search-low          the labels stay small
 --   search-next         a round further
 --   search-found        no node is late: the labels are those of the least retiming
 --   search-pin          a pin is late: no legal retiming meets the period
 --   search-last         after as many rounds as nodes: the least, or there is none
-use Prim.Native.Nat.{ℕ, suc, _+_, _*_, _≤_, _<_}
+use Prim.Native.Nat.{ℕ, suc, _+_, _≤_, _<_}
 use native.Mathlib.Omega.{arith}
-use native.Mathlib.Nat.{mul-le-mul}
 use native.Mathlib.Numerals.{add-one}
 use native.Mathlib.Decide.{ℕ-discrete}
 use mathlib.Core.Path.{_≡_, sym, subst, _∙_}
@@ -21,7 +20,8 @@ use lib.ListN.{length, set, length-set}
 use lib.Seq.{getD-set-same, getD-set-other}
 use Rattle.theory.specs.Graph.{Wired}
 use Rattle.theory.proofs.labels.Start.{Distance, First}
-use Rattle.theory.proofs.labels.Stop.{After, round, after-near}
+use Rattle.theory.specs.inner.Labels.{Fits}
+use Rattle.theory.proofs.labels.Stop.{After, start, round, after-near, after-fits}
 use Rattle.theory.proofs.labels.Arrival.{time-late, times-round, times-no-late-pin, times-none}
 use Rattle.theory.proofs.labels.Answer.{ready, answer-least, answer-pin, answer-rounds}
 use Rattle.graph.specs.Columns.{at}
@@ -30,16 +30,13 @@ use Rattle.graph.specs.inner.Marks.{Above}
 use Rattle.netlist.specs.declared.Netlist.{Netlist}
 use Rattle.netlist.specs.Net.{graphOf, regsOf, delayOf}
 use Rattle.netlist.proofs.Fits.{clash}
-use Rattle.netlist.proofs.Run.{fit-wired}
-use Rattle.netlist.proofs.Lowest.{few}
+use Rattle.netlist.proofs.Run.{fit-rows, fit-wired}
 use Rattle.lags.specs.inner.Lags.{lagOf, Sure, Leasts}
 use Rattle.lags.specs.inner.Starts.{FirstLabels}
-use Rattle.lags.specs.inner.Rounds.{Low, Arrived, LatePin, Lifted}
+use Rattle.lags.specs.inner.Rounds.{Low, LabelOrder, Arrived, LatePin, Lifted, Parted}
 use Rattle.lags.proofs.Laws.{lag-label}
 use Rattle.lags.proofs.Starts.{measured-distance, begun-first}
-
-pub product-small : (a b : ℕ) → a < 256 → b < 256 → a * b ≤ 65025
-product-small a b h k = mul-le-mul {n₁ = a} {m₁ = b} {n₂ = 255} {m₂ = 255} (omega arith) (omega arith)
+use Rattle.lags.proofs.Orders.{order-kept}
 
 -- ── A round ─────────────────────────────────────────────────────────────────────────────────
 
@@ -97,16 +94,30 @@ module _ (nodes P : ℕ) (time before : List ℕ) where
 
 -- ── The search ──────────────────────────────────────────────────────────────────────────────
 
-pub record Searching (net : Netlist) (P : ℕ) (first lab : List ℕ) (k : ℕ) : Type 0 where
+pub record Searching (net : Netlist) (P : ℕ) (first lab order : List ℕ) (k : ℕ) : Type 0 where
   pub sure : Sure net
   pub begun : FirstLabels net first
   pub rounds : k ≤ 512
   pub size : length lab ≡ 512
+  pub order-size : length order ≡ 512
+  pub ordered : LabelOrder net lab order
   pub after : After (graphOf net) (regsOf net .count) (delayOf net) P (at first) (at lab) k
 
-module _ {net : Netlist} {P : ℕ} {first lab : List ℕ} {k : ℕ} (w : Searching net P first lab k) where
+pub search-start : {net : Netlist} {P : ℕ} {first order : List ℕ} (k : ℕ) → k ≡ 0 → Sure net → FirstLabels net first → length first ≡ 512 → LabelOrder net first order
+    → length order ≡ 512 → Searching net P first first order k
+search-start {net} {P} {first} k z s b n o m = record {
+  sure = s;
+  begun = b;
+  rounds = omega arith;
+  size = n;
+  order-size = m;
+  ordered = o;
+  after = subst (After (graphOf net) (regsOf net .count) (delayOf net) P (at first) (at first)) (sym z) start;
+}
+
+module _ {net : Netlist} {P : ℕ} {first lab order : List ℕ} {k : ℕ} (w : Searching net P first lab order k) where
   pub search-few : net .nodes ≤ 512
-  search-few = few net (w .sure .fit)
+  search-few = fit-rows net (w .sure .fit) .0
 
   wired : Wired (graphOf net)
   wired = fit-wired net (w .sure .fit)
@@ -117,24 +128,27 @@ module _ {net : Netlist} {P : ℕ} {first lab : List ℕ} {k : ℕ} (w : Searchi
   from-first : First (graphOf net) 16384 (at (w .begun .far)) (at first)
   from-first = begun-first net (w .sure) first (w .begun)
 
+  first-fits : Fits (graphOf net) (at (net .count)) (at first)
+  first-fits = ready wired (at (net .count)) (delayOf net) 16384 P (at (w .begun .far)) (at first) distance from-first .legal .fits
+
   -- A round raises a label by one at most.
   pub search-low : Low (net .nodes) lab
-  search-low v h =
-      let r = ready wired (at (net .count)) (delayOf net) 16384 P (at (w .begun .far)) (at first) distance from-first in
-      omega (arith, after-near wired (r .legal .fits) (w .after) v h, w .begun .labels v h, w .rounds)
+  search-low v h = omega (arith, after-near wired first-fits (w .after) v h, w .begun .labels v h, w .rounds)
 
   module _ (time : List ℕ) (a : Arrived net P lab time) where
     -- A time above the period is the period and one.
     over : (v : ℕ) → v < net .nodes → P < at time v → at time v ≡ suc P
     over v h l = omega (arith, a .reached v h .enough)
 
-    pub search-next : (next : List ℕ) → k < net .nodes → length next ≡ length lab → ¬ LatePin (net .kind) time (net .nodes) P → Lifted (net .nodes) P time lab next
-        → Searching net P first next (k + 1)
-    search-next next h m n l = record {
+    pub search-next : (next new : List ℕ) → k < net .nodes → length next ≡ length lab → length new ≡ 512 → ¬ LatePin (net .kind) time (net .nodes) P
+        → Lifted (net .nodes) P time lab next → Parted order time P (net .nodes) new → Searching net P first next new (k + 1)
+    search-next next new h m z n l p = record {
       sure = w .sure;
       begun = w .begun;
       rounds = omega (arith, search-few);
       size = m ∙ w .size;
+      order-size = z;
+      ordered = order-kept net P time lab next order new (w .sure) (after-fits wired first-fits (w .after)) l (w .ordered) p (omega (arith, search-few));
       after = rw add-one (round (w .after)
           (times-no-late-pin (at (net .count)) (delayOf net) P (at lab) (at time) a (λ v m p q. n (record { node = v; within = m; pin = p; late = omega arith })))
           (times-round (at (net .count)) (delayOf net) P (at lab) (at time) a (at next)

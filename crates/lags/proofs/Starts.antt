@@ -2,12 +2,12 @@
 --   State               what holds in a sweep before edge e
 --   Edge                what a sweep reads at edge e
 --   Sweeping            what holds between two sweeps
---   count-few           an edge has 32 registers at most
 --   near-pin            every gate is within 16,384 registers of a pin
 --   far-start           the distances to start from
 --   edge-reads          the edge's numbers are in their ranges
 --   state-keep, state-shorten, state-end      an edge that offers nothing; one that offers a shorter way; after the last edge
 --   measured-distance, begun-first            the distances and the labels in the theory's words
+--   begun-low           the labels are small
 use Prim.Native.Nat.{ℕ, _+_, _≤_, _<_}
 use native.Mathlib.Omega.{arith}
 use native.Mathlib.Decide.{ℕ-discrete, decLe}
@@ -17,7 +17,6 @@ use mathlib.Core.Logic.{_⊎_, inl, inr, _≢_}
 use lib.ListN.{length, set, length-set}
 use lib.Seq.{getD-set-same, getD-set-other}
 use borrow.Author.Tests.{le-leb, lt-leb}
-use Rattle.theory.specs.Graph.{Pin}
 use Rattle.theory.proofs.numbers.Sums.{sum-less}
 use Rattle.theory.proofs.walks.Short.{short-walk, few-registers}
 use Rattle.theory.specs.inner.Arrival.{FromPin}
@@ -25,10 +24,11 @@ use Rattle.theory.proofs.labels.Start.{from-pin, from-edge, Distance, First}
 use Rattle.graph.specs.Columns.{at}
 use Rattle.netlist.specs.declared.Netlist.{Netlist}
 use Rattle.netlist.specs.Net.{graphOf, regsOf}
-use Rattle.netlist.proofs.Fits.{edge-fits}
+use Rattle.netlist.specs.inner.Words.{PinIn}
 use Rattle.netlist.proofs.Run.{fit-rows, fit-wired}
-use Rattle.netlist.proofs.Lowest.{few}
+use Rattle.netlist.proofs.Lowest.{count-low}
 use Rattle.lags.specs.inner.Lags.{Sure}
+use Rattle.lags.specs.inner.Rounds.{Low}
 use Rattle.lags.specs.inner.Starts.{startOf, distanceSum, Far, NoShorter, Shortened, Measured, FirstLabels}
 
 -- r is 1 where a distance has changed.
@@ -55,12 +55,8 @@ pub record Sweeping (net : Netlist) (far : List ℕ) (r : ℕ) : Type 0 where
   pub passed : r ≡ 0 → NoShorter net far (net .edges)
 
 module _ (net : Netlist) (s : Sure net) where
-  count-few : (e : ℕ) → e < net .edges → at (net .count) e ≤ 32
-  count-few e h =
-      edge-fits (net .nodes) (graphOf net .kind) (at (net .from) e) (at (net .to) e) (at (net .count) e) (at (net .start) e) (s .fit .edge e h) .2
-
   -- An input reaches v. A walk between the two has fewer edges than there are nodes, 511 at most, and 32 registers on each at most.
-  pub near-pin : (v : ℕ) → v < net .nodes → ¬ Pin (graphOf net) v → FromPin (graphOf net) (regsOf net .count) v 16384
+  pub near-pin : (v : ℕ) → v < net .nodes → ¬ PinIn net v → FromPin (graphOf net) (regsOf net .count) v 16384
   near-pin v h p =
       let f = s .fed v h p in
       let q = short-walk (fit-wired net (s .fit)) (f .walk) in
@@ -68,29 +64,29 @@ module _ (net : Netlist) (s : Sure net) where
         from = f .from;
         pin = omega (arith, f .input);
         walk = q .0;
-        few = omega (arith, few-registers (at (net .count)) 32 count-few (q .0), q .1, few net (s .fit));
+        few = omega (arith, few-registers (at (net .count)) 32 (count-low net (s .fit)) (q .0), q .1, fit-rows net (s .fit) .0);
       }
 
   pub far-start : (far : List ℕ) → length far ≡ 512 → ((v : ℕ) → v < net .nodes → at far v ≡ startOf (at (net .kind) v)) → Far net far
   unfolding startOf
   far-start far n w = record {
-    rows = omega (arith, few net (s .fit));
+    rows = omega (arith, fit-rows net (s .fit) .0);
     low = λ v h. low v h (decLe (at (net .kind) v) 1);
     pins = λ v h p. pin v h p;
     reached = λ v h. reached v h (decLe (at (net .kind) v) 1);
   }
     where
-      pin : (v : ℕ) → v < net .nodes → Pin (graphOf net) v → at far v ≡ 0
+      pin : (v : ℕ) → v < net .nodes → PinIn net v → at far v ≡ 0
       pin v h p = rw (w v h, le-leb (at (net .kind) v) 1 p)
 
-      gate : (v : ℕ) → v < net .nodes → ¬ Pin (graphOf net) v → at far v ≡ 16384
+      gate : (v : ℕ) → v < net .nodes → ¬ PinIn net v → at far v ≡ 16384
       gate v h p = rw (w v h, lt-leb (at (net .kind) v) 1 (let z : 1 < at (net .kind) v = omega arith in z))
 
-      low : (v : ℕ) → v < net .nodes → Dec (Pin (graphOf net) v) → at far v ≤ 16384
+      low : (v : ℕ) → v < net .nodes → Dec (PinIn net v) → at far v ≤ 16384
       low v h (yes p) = omega (arith, pin v h p)
       low v h (no p) = omega (arith, gate v h p)
 
-      reached : (v : ℕ) → v < net .nodes → Dec (Pin (graphOf net) v) → FromPin (graphOf net) (regsOf net .count) v (at far v)
+      reached : (v : ℕ) → v < net .nodes → Dec (PinIn net v) → FromPin (graphOf net) (regsOf net .count) v (at far v)
       reached v h (yes p) = rw (pin v h p) (from-pin v h p)
       reached v h (no p) = rw (gate v h p) (near-pin v h p)
 
@@ -101,11 +97,11 @@ module _ (net : Netlist) (s : Sure net) where
       let i = fit-wired net (s .fit) in
       record {
         row = omega (arith, fit-rows net (s .fit) .1);
-        from-node = omega (arith, i .src-in e h, few net (s .fit));
-        to-node = omega (arith, i .dst-in e h, few net (s .fit));
+        from-node = omega (arith, i .src-in e h, fit-rows net (s .fit) .0);
+        to-node = omega (arith, i .dst-in e h, fit-rows net (s .fit) .0);
         from-row = omega (arith, i .src-in e h, w .rows);
         to-row = omega (arith, i .dst-in e h, w .rows);
-        few = count-few e h;
+        few = count-low net (s .fit) e h;
         low = w .low (at (net .from) e) (i .src-in e h);
       }
 
@@ -187,6 +183,9 @@ module _ (net : Netlist) (s : Sure net) where
   pub begun-first : (lab : List ℕ) (b : FirstLabels net lab) → First (graphOf net) 16384 (at (b .far)) (at lab)
   begun-first lab b v h = go (decLe (at (net .kind) v) 1)
     where
-      go : Dec (Pin (graphOf net) v) → (Pin (graphOf net) v × (at lab v ≡ 16384)) ⊎ (¬ Pin (graphOf net) v × (at lab v + at (b .far) v ≡ 16384))
+      go : Dec (PinIn net v) → (PinIn net v × (at lab v ≡ 16384)) ⊎ (¬ PinIn net v × (at lab v + at (b .far) v ≡ 16384))
       go (yes p) = inl (p, omega (arith, b .labels v h, b .measured .ways .pins v h p))
       go (no p) = inr (p, b .labels v h)
+
+pub begun-low : (net : Netlist) (lab : List ℕ) → FirstLabels net lab → Low (net .nodes) lab
+begun-low net lab b v h = omega (arith, b .labels v h)

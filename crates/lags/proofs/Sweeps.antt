@@ -5,7 +5,7 @@
 --   climb-low           what is asked of a node is small
 --   climb-next          what a node takes is below every legal retiming that meets the period, where the marks are
 --   Sweeping            what holds in a sweep before place i of the order
---   sweep-kept, sweep-moved, sweep-late, sweep-end      a node that has its mark; one that takes another; a pin above its label; after the last node
+--   sweep-kept, sweep-moved, sweep-late, sweep-still      a node that has its mark; one that takes another; a pin above its label; after the last node
 use Prim.Native.Nat.{ℕ, suc, _+_, _-_, _*_, min, _≤_, _<_}
 use native.Mathlib.Omega.{arith}
 use native.Mathlib.Decide.{ℕ-discrete, decLe}
@@ -17,16 +17,17 @@ use lib.ListN.{length, set, length-set}
 use lib.Seq.{getD-set-same, getD-set-other}
 use borrow.Author.Count.{below-more}
 use borrow.Author.Tests.{le-leb, lt-leb}
-use Rattle.theory.specs.Graph.{Pin}
 use Rattle.theory.specs.inner.Arrival.{Infeasible, Under, UnderAll}
 use Rattle.theory.proofs.labels.Climb.{under-earlier, under-alone, under-edge, under-next, climb-pin}
 use Rattle.graph.specs.Columns.{at}
 use Rattle.netlist.specs.declared.Netlist.{Netlist}
 use Rattle.netlist.specs.Net.{graphOf, delayOf}
+use Rattle.netlist.specs.inner.Words.{PinIn}
 use Rattle.netlist.proofs.Fits.{clash}
 use Rattle.netlist.proofs.Run.{fit-rows, fit-wired}
 use Rattle.lags.specs.declared.climb.Swept.the-variants.{Still}
-use Rattle.lags.specs.inner.Climb.{labelOf, timeOf, floorOf, Climbing, Askable, AskedMark, Takes, on, anew, Rests, Lower, Marked, SweepLeaves}
+use Rattle.lags.specs.inner.Wires.{NodeList, Basis}
+use Rattle.lags.specs.inner.Climb.{labelOf, timeOf, floorOf, Askable, AskedMark, Takes, on, anew, Rests, Lower, Marked, SweepLeaves}
 
 -- ── One node ────────────────────────────────────────────────────────────────────────────────
 
@@ -63,14 +64,14 @@ module _ (ins from count mark : List ℕ) (floor lo k best : ℕ) (h : lo ≤ k)
 
 -- ── A climb ─────────────────────────────────────────────────────────────────────────────────
 
-module _ {net : Netlist} {P : ℕ} {ins first order delay : List ℕ} (w : Climbing net P ins first order delay) where
+module _ {net : Netlist} {P : ℕ} {ins first delay : List ℕ} (w : Basis net P ins first delay) where
   pub climb-askable : (mark : List ℕ) → Marked net P mark → 1024 ≤ length (net .from) → 1024 ≤ length (net .count) → (v : ℕ) → v < net .nodes
       → Askable ins (net .from) (net .count) mark (at first v) (at first (v + 1))
   climb-askable mark m rf rc v h = record {
-    up = w .wires .up v h;
-    rows = omega (arith, w .wires .within v h, w .wires .ins-rows);
+    up = w .wires .by-node .up v h;
+    rows = omega (arith, w .wires .by-node .within v h, w .wires .list-rows);
     edge = λ k l q.
-        let e = w .wires .edge k (omega (arith, w .wires .within v h)) in
+        let e = w .wires .by-node .edge k (omega (arith, w .wires .by-node .within v h)) in
         let u = fit-wired net (w .sure .fit) .src-in (at ins k) e in
         let n = fit-rows net (w .sure .fit) .1 in
         (omega arith, omega arith, omega (arith, m .rows), m .low (at (net .from) (at ins k)) u);
@@ -83,7 +84,7 @@ module _ {net : Netlist} {P : ℕ} {ins first order delay : List ℕ} (w : Climb
         ⊎-elim
         (λ c. omega (arith, floor-low (at (net .kind) v)))
         (λ c.
-        let i = w .wires .edge (c .0) (omega (arith, c .2, w .wires .within v h)) in
+        let i = w .wires .by-node .edge (c .0) (omega (arith, c .2, w .wires .by-node .within v h)) in
         omega (arith, c .3, m .low (at (net .from) (at ins (c .0))) (fit-wired net (w .sure .fit) .src-in (at ins (c .0)) i)))
         (a .cause)
 
@@ -94,7 +95,7 @@ module _ {net : Netlist} {P : ℕ} {ins first order delay : List ℕ} (w : Climb
         Here : Type 0
         Here = Under (graphOf net) (at (net .count)) (delayOf net) P r v (labelOf best) (min (suc P) (timeOf best + delayOf net v))
 
-        alone : best ≡ floorOf (at (net .kind) v) → Dec (Pin (graphOf net) v) → Here
+        alone : best ≡ floorOf (at (net .kind) v) → Dec (PinIn net v) → Here
         alone c (yes p) =
             let f = floor-pin (at (net .kind) v) p in
             under-alone (at (net .count)) (delayOf net) P r v _ _ h (omega (arith, l .pinned v h p)) (omega arith)
@@ -105,13 +106,13 @@ module _ {net : Netlist} {P : ℕ} {ins first order delay : List ℕ} (w : Climb
         along : (k : ℕ) × (at first v ≤ k) × (k < at first (v + 1)) × (at mark (at (net .from) (at ins k)) ≡ best + at (net .count) (at ins k) * 1048576) → Here
         along c =
             let e = at ins (c .0) in
-            let i = w .wires .edge (c .0) (omega (arith, c .2, w .wires .within v h)) in
+            let i = w .wires .by-node .edge (c .0) (omega (arith, c .2, w .wires .by-node .within v h)) in
             let x = at mark (at (net .from) e) in
             let s : x ≡ best + at (net .count) e * 1048576 = c .3 in
             let b : labelOf x ≡ labelOf best + at (net .count) e = omega arith in
             let u = under-edge (at (net .count)) (delayOf net) P r (l .fits) e (labelOf x) (labelOf best) (timeOf x) i b (m .under (at (net .from) e) (fit-wired net (w .sure .fit) .src-in e i) r l q) in
             under-earlier (at (net .count)) (delayOf net) P r v (labelOf best) (min (suc P) (timeOf x + delayOf net v)) _ (omega arith)
-            (subst (λ y. Under (graphOf net) (at (net .count)) (delayOf net) P r y (labelOf best) (min (suc P) (timeOf x + delayOf net y))) (w .wires .enters v (c .0) h (c .1) (c .2)) u)
+            (subst (λ y. Under (graphOf net) (at (net .count)) (delayOf net) P r y (labelOf best) (min (suc P) (timeOf x + delayOf net y))) (w .wires .by-node .ends v (c .0) h (c .1) (c .2)) u)
 
     pub climb-next : (next : ℕ) → Takes P (at delay v) best next → Lower net P v next
     climb-next next (on t p s) r l q =
@@ -124,7 +125,7 @@ module _ {net : Netlist} {P : ℕ} {ins first order delay : List ℕ} (w : Climb
         (under-earlier (at (net .count)) (delayOf net) P r v (suc (labelOf best)) (delayOf net v) (timeOf next) (omega arith)
         (under-next (at (net .count)) (delayOf net) P r q v (labelOf best) (timeOf best) h (omega arith) (climb-asked r l q)))
 
-    pub sweep-late : (next : ℕ) → Takes P (at delay v) best next → Pin (graphOf net) v → 17180917760 ≤ next
+    pub sweep-late : (next : ℕ) → Takes P (at delay v) best next → PinIn net v → 17180917760 ≤ next
         → Infeasible (graphOf net) (at (net .count)) (delayOf net) 16384 P
     sweep-late next t p b = climb-pin (at (net .count)) (delayOf net) 16384 P v (labelOf next) (timeOf next) h p (omega arith) (climb-next next t)
 
@@ -137,11 +138,11 @@ pub record Sweeping (net : Netlist) (P : ℕ) (ins first order delay before mark
   pub rests : changed ≡ false → (k : ℕ) → k < i → Rests net P ins first delay mark (at order k)
 
 module _ {net : Netlist} {P : ℕ} {ins first order delay before mark : List ℕ} {changed : Bool} {i : ℕ}
-    (w : Climbing net P ins first order delay) (s : Sweeping net P ins first order delay before mark changed i) where
+    (s : Sweeping net P ins first order delay before mark changed i) where
   pub sweep-kept : i < net .nodes → Rests net P ins first delay mark (at order i) → Sweeping net P ins first order delay before mark changed (i + 1)
   sweep-kept h t = record { done = omega arith; size = s .size; marked = s .marked; rests = λ z. below-more _ _ (s .rests z) t }
 
-  pub sweep-moved : i < net .nodes → (v next : ℕ) → v < net .nodes → next < 34359738368 → (Pin (graphOf net) v → labelOf next ≤ 16384) → Lower net P v next
+  pub sweep-moved : i < net .nodes → (v next : ℕ) → v < net .nodes → next < 34359738368 → (PinIn net v → labelOf next ≤ 16384) → Lower net P v next
       → Sweeping net P ins first order delay before (set mark v next) true (i + 1)
   sweep-moved h v next n b p c = record {
     done = omega arith;
@@ -149,7 +150,7 @@ module _ {net : Netlist} {P : ℕ} {ins first order delay before mark : List ℕ
     marked = record {
       rows = omega (arith, length-set mark v next, s .marked .rows);
       low = λ x k. put (λ y m. m < 34359738368) b x (s .marked .low x k);
-      pinned = λ x k. put (λ y m. Pin (graphOf net) y → labelOf m ≤ 16384) p x (s .marked .pinned x k);
+      pinned = λ x k. put (λ y m. PinIn net y → labelOf m ≤ 16384) p x (s .marked .pinned x k);
       under = λ x k. put (Lower net P) c x (s .marked .under x k);
     };
     rests = λ z. clash (cc);
@@ -163,9 +164,9 @@ module _ {net : Netlist} {P : ℕ} {ins first order delay before mark : List ℕ
           go (yes z) = subst (λ y. Is y (at (set mark v next) y)) (sym z) (subst (Is v) (sym (getD-set-same mark v next 0 (omega (arith, s .marked .rows)))) new)
           go (no z) = subst (Is x) (sym (getD-set-other mark v x next 0 z)) old
 
-  pub sweep-still : net .nodes ≤ i → changed ≡ false → SweepLeaves net P ins first delay mark Still
-  sweep-still h z = (
+  pub sweep-still : NodeList net order → net .nodes ≤ i → changed ≡ false → SweepLeaves net P ins first delay mark Still
+  sweep-still o h z = (
     s .marked,
-    λ v l. let t = w .wires .every v l in
+    λ v l. let t = o .every v l in
         subst (Rests net P ins first delay mark) (t .holds) (s .rests z (t .place) (omega (arith, t .within))),
   )

@@ -12,7 +12,8 @@ ghost use Prim.Native.Nat.{ℕ, _≤_, _<_};
 ghost use lib.ListN.{length};
 ghost use Rattle.graph.specs.Columns.{at};
 ghost use Rattle.lags.specs.inner.Lags.{Leasts};
-ghost use Rattle.lags.specs.inner.Climb.{labelOf, floorOf, Askable, AskedMark, Takes, Climbing, Marked, SweepLeaves};
+ghost use Rattle.lags.specs.inner.Wires.{NodeList, Basis};
+ghost use Rattle.lags.specs.inner.Climb.{labelOf, floorOf, Askable, AskedMark, Takes, Marked, SweepLeaves};
 
 // A mark is a label and a time, label · 2^20 + time: the higher label counts first, then the later time. This is one label.
 const LABEL: u64 = 1048576;
@@ -26,8 +27,9 @@ const ABOVE: u64 = 17180917760;
 // Label 32,768: a lag has 16 bits.
 const TOP: u64 = 34359738368;
 
-// So many sweeps at most. A sweep costs a small part of a round, so the rounds can wait; a loop that is just fast enough was seen to need more than 128.
-const SWEEPS: u32 = 256;
+// So many sweeps at most. Most texts settle in a few. A loop that is just fast enough was seen to need about 200; but a round costs little more than a sweep,
+// so it is then left to the rounds, and a loop that is too slow has lost little.
+const SWEEPS: u32 = 64;
 
 // What a sweep comes to. Late: a pin is asked for a label above 16,384. High: a gate for one above 32,767.
 pub enum Swept {
@@ -100,7 +102,7 @@ fn sweep(
     period: u32,
     mark: &mut [u64],
 ) -> Swept
-    requires { ⌜ Climbing net period (now ins) (now first) (now order) (now delay) × Marked net period (now mark) ⌝ }
+    requires { ⌜ Basis net period (now ins) (now first) (now delay) × NodeList net (now order) × Marked net period (now mark) ⌝ }
     ensures { λ r. ⌜ SweepLeaves net period (now (ins .entry)) (now (first .entry)) (now (delay .entry)) (now (mark .exit)) r ⌝ }
 {
     let nodes = net.nodes as usize;
@@ -164,7 +166,7 @@ pub fn climb(
     delay: &[u32],
     period: u32,
 ) -> Climbed
-    requires { ⌜ Climbing net period (now ins) (now first) (now order) (now delay) ⌝ }
+    requires { ⌜ Basis net period (now ins) (now first) (now delay) × NodeList net (now order) ⌝ }
     ensures { λ r. ⌜ (r .settled ≡ true → Leasts net period (r .labels)) ⌝ }
 {
     let nodes = net.nodes as usize;

@@ -1,17 +1,19 @@
 // The lags of the least retiming, for any period. Internal: it asks of the caller (`requires`) what reading has made sure of.
 mod climb;
 mod label;
+mod order;
 mod rounds;
 mod start;
+mod times;
 
 use climb::climb;
 use graph::EDGES;
 use graph::NODES;
-use graph::by_rank;
+use graph::evaluation_order;
 use graph::sort_by;
 use netlist::Netlist;
 use rounds::by_rounds;
-use rounds::working_delays;
+use times::working_delays;
 ghost use Prim.Native.Nat.{_<_};
 ghost use Rattle.lags.specs.inner.Lags.{Sure, Leasts};
 pub use label::BIAS;
@@ -31,7 +33,7 @@ pub fn least(net: Netlist, period: u32) -> Labels
 {
     let nodes = net.nodes as usize;
     let edges = net.edges as usize;
-    let order = by_rank(&net.from, &net.to, &net.count, nodes, edges);
+    let order = evaluation_order(&net.from, &net.to, &net.count, nodes, edges);
     let mut ins = [0u16; EDGES];
     let mut first = [0u16; NODES + 1];
     sort_by(&net.to, edges, nodes, &mut ins, &mut first);
@@ -41,5 +43,5 @@ pub fn least(net: Netlist, period: u32) -> Labels
         let labels = climbed.labels;
         return labels;
     }
-    by_rounds(net, &order, period)
+    by_rounds(net, &ins, &first, &delay, period)
 }

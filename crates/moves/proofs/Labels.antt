@@ -8,10 +8,9 @@ use mathlib.Core.Path.{_≡_, subst, ap₂, _∙_}
 use mathlib.Core.List.{List}
 use Rattle.theory.specs.Lag.{up}
 use Rattle.theory.specs.Move.{sum}
-use Rattle.theory.specs.Retimer.{TooWide, Narrow}
 use Rattle.graph.specs.Columns.{at}
 use Rattle.netlist.specs.declared.Netlist.{Netlist}
-use Rattle.netlist.specs.Net.{graphOf, regsOf}
+use Rattle.netlist.specs.Circuit.{NarrowAt, WideAt}
 use Rattle.netlist.proofs.Run.{fit-rows, fit-wired}
 use Rattle.lags.specs.inner.Lags.{lagOf}
 use Rattle.lags.proofs.Laws.{lag-label}
@@ -42,7 +41,7 @@ low-edges net lab s = fit-rows net (s .fit) .1
 -- ── Counts above 32 ─────────────────────────────────────────────────────────────────────────
 
 pub wide-edge : (net : Netlist) (lab counts : List ℕ) (r : ℕ) → Counts net lab counts → Wide counts (net .edges) r → r < net .edges
-    → TooWide (graphOf net) (regsOf net .count) (lagsOf lab) r
+    → WideAt net (lagsOf lab) r
 wide-edge net lab counts r c w h = record {
   edge = h;
   wide = subst (λ x. 32 < x) (c r h) (w .wide h);
@@ -50,7 +49,7 @@ wide-edge net lab counts r c w h = record {
 }
 
 pub wide-none : (net : Netlist) (lab counts : List ℕ) (r : ℕ) → Counts net lab counts → Wide counts (net .edges) r → ¬ (r < net .edges)
-    → Narrow (graphOf net) (regsOf net .count) (lagsOf lab)
+    → NarrowAt net (lagsOf lab)
 wide-none net lab counts r c w h e l = subst (λ x. x ≤ 32) (c e l) (w .low e (omega arith))
 
 -- ── Chosen values ───────────────────────────────────────────────────────────────────────────

@@ -1,4 +1,5 @@
 -- Lags that agree at the nodes: the edges join nodes, so nothing looks at a lag past them.
+--   registers-alike, loop-alike  a walk's registers depend on its edges' counts, and so do loops
 --   count-alike, chosen-alike    the new counts, and how many values are chosen
 --   regs-alike          the retimed registers
 --   legal-alike, least-alike, best-alike, no-start-alike    what is legal, least, taken or without a start stays so
@@ -10,7 +11,7 @@ use mathlib.Core.List.{List}
 use lib.Dec.{ltb}
 use lib.IntN.{ℤ}
 use Rattle.theory.specs.Graph.{Graph, Wired}
-use Rattle.theory.specs.Walk.{Walk, one, more, registers}
+use Rattle.theory.specs.Walk.{Walk, one, more, registers, Loop}
 use Rattle.theory.specs.Clock.{Regs, value}
 use Rattle.theory.specs.inner.Registers.{SameRegs}
 use Rattle.theory.specs.Lag.{up, down, newCount, Legal, Least}
@@ -25,6 +26,9 @@ pub registers-alike : {G : Graph} {u v : ℕ} (count count′ : ℕ → ℕ) →
 unfolding registers
 registers-alike count count′ h (one l) = refl
 registers-alike count count′ h (more e l p) = ap₂ _+_ (registers-alike count count′ h p) (h e l)
+
+pub loop-alike : {G : Graph} (count count′ : ℕ → ℕ) → ((e : ℕ) → e < G .edges → count e ≡ count′ e) → Loop G count → Loop G count′
+loop-alike count count′ h l = record { node = l .node; walk = l .walk; moves = l .moves; bare = sym (registers-alike count count′ h (l .walk)) ∙ l .bare }
 
 module _ (gate : ℕ → List ℕ → ℕ) (G : Graph) (w : Wired G) (R : Regs) (r q : ℕ → ℤ) (same : (v : ℕ) → v < G .nodes → r v ≡ q v) where
   pub count-alike : (e : ℕ) → e < G .edges → newCount G (R .count) r e ≡ newCount G (R .count) q e

@@ -33,7 +33,7 @@ use Rattle.moves.specs.inner.Columns.{Filled, none, withColumns}
 use Rattle.moves.proofs.Words.{word-fits, word-bit}
 use Rattle.theory.proofs.numbers.Sums.{sum-same}
 use Rattle.moves.proofs.Rows.{column-length, column-in, column-past, column-is, column-same}
-use Rattle.moves.proofs.Lags.{registers-alike}
+use Rattle.moves.proofs.Lags.{loop-alike}
 
 pub with-same : (net : Netlist) (R R′ : Regs) → SameRegs (graphOf net) R R′ → withRegs net R′ ≡ withRegs net R
 with-same net R R′ same =
@@ -104,6 +104,6 @@ with-reads t net R r ok narrow =
     judged (withRegs net R)
     (lines-fact (textOf (withRegs net R)) (withRegs net R) .1 (with-fit net R few bits (l .0) narrow, with-clean net R few bits (l .1), refl))
     (judged-sound (withRegs net R) (j .fan-in)
-    (λ o. ok .no-loop (record { node = o .node; walk = o .walk; moves = o .moves; bare = sym (registers-alike (regsOf (withRegs net R) .count) (R .count) (same .counts) (o .walk)) ∙ o .bare }))
+    (λ o. ok .no-loop (loop-alike (regsOf (withRegs net R) .count) (R .count) (same .counts) o))
     (j .joined))
     refl

@@ -14,12 +14,13 @@ use lib.IntN.{ℤ}
 use lib.ListN.{length}
 use lib.Pow.{pow-mono}
 use Rattle.theory.specs.Gate.{gate}
-use Rattle.theory.specs.Move.{sum, chosenOn}
+use Rattle.theory.specs.Move.{sum}
 use Rattle.theory.proofs.moves.Best.{choice-bit}
 use Rattle.theory.proofs.numbers.Bits.{bit-below, bit-top, bit-fits}
 use Rattle.graph.specs.Columns.{bit}
 use Rattle.netlist.specs.declared.Netlist.{Netlist}
 use Rattle.netlist.specs.Net.{graphOf, regsOf}
+use Rattle.netlist.specs.inner.Words.{chosenOnAt}
 use Rattle.moves.specs.Moved.{wordOf}
 use Rattle.moves.specs.inner.Chosen.{EdgeWords, ShortWords}
 
@@ -51,5 +52,5 @@ module _ (word t x : ℕ) (l : word < 2 ^ t) (b : x ≤ 1) where
 pub words-short : (net : Netlist) (r : ℕ → ℤ) (c : ℕ) (words : List ℕ) → net .edges ≤ length words → EdgeWords net r c words → ShortWords net r words
 words-short net r c words l w = record {
   rows = l;
-  fits = λ e h. subst (λ x. x < 2 ^ chosenOn (graphOf net) (regsOf net .count) r e) (sym (w e h)) (word-fits _ _ (λ t b. choice-bit gate (graphOf net) (regsOf net) r c e t));
+  fits = λ e h. subst (λ x. x < 2 ^ chosenOnAt net r e) (sym (w e h)) (word-fits _ _ (λ t b. choice-bit gate (graphOf net) (regsOf net) r c e t));
 }

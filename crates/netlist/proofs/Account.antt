@@ -24,7 +24,8 @@ use Rattle.netlist.specs.Read.{Lines, fault, lines, nothingMore, linesOf
 use Rattle.netlist.specs.Write.{nodeLine, edgeLine, joined, textOf}
 use Rattle.netlist.specs.Theorems.{FitTo, Fit, CleanTo, Clean, toNode, toEdge, FaultAt, head-frame, head-range, node-frame, node-rule, edge-frame, edge-rule, surplus}
 use Rattle.netlist.proofs.Rows.{length-zeros, zeros-at, set-past, joined-same}
-use Rattle.netlist.proofs.Fits.{clash, head-fits}
+use Rattle.netlist.proofs.Fits.{clash}
+use Rattle.netlist.proofs.Run.{fit-rows}
 use Rattle.netlist.proofs.Fields.{headBytes, edgeBytes, four-bytes, nodeBytes, node-bytes}
 
 pub data Account (t : List ℕ) : Lines → Type 0 where
@@ -62,7 +63,7 @@ EdgeFits nodes kind r = edgeFits nodes kind (r .0) (r .1) (r .2) (r .3) ≡ true
 module _ (net : Netlist) (i k d : ℕ) (f : FitTo net i 0) (c : CleanTo net i 0) (few : i < net .nodes) where
   node-put : nodeRow (withNode net i k d) i ≡ (k, d)
   node-put =
-      let h = head-fits (net .period) (net .derate) (net .nodes) (net .edges) (f .head) in
+      let h = fit-rows net f in
       let a = getD-set-same (net .kind) i k 0 (omega (arith, c .kinds)) in
       let b = getD-set-same (net .delay) i d 0 (omega (arith, c .kinds)) in
       λ j. (a j, b j)
@@ -96,7 +97,7 @@ module _ (net : Netlist) (i k d : ℕ) (f : FitTo net i 0) (c : CleanTo net i 0)
 module _ (net : Netlist) (i u v w s : ℕ) (f : FitTo net (net .nodes) i) (c : CleanTo net (net .nodes) i) (few : i < net .edges) where
   edge-put : edgeRow (withEdge net i u v w s) i ≡ (u, v, w, s)
   edge-put =
-      let h = head-fits (net .period) (net .derate) (net .nodes) (net .edges) (f .head) in
+      let h = fit-rows net f in
       let x = getD-set-same (net .from) i u 0 (omega (arith, c .ends)) in
       let y = getD-set-same (net .to) i v 0 (omega (arith, c .ends)) in
       let z = getD-set-same (net .count) i w 0 (omega (arith, c .ends)) in

@@ -113,10 +113,9 @@ same-alike q = record {
 }
 
 pub judged-same : {net net′ : Netlist} {s : Said} → Wired (graphOf net) → Same net net′ → Judged net s → Judged net′ s
-judged-same {s = s} w q =
+judged-same w q =
     let a = same-alike q in
     let b = back a in
     else-map (given-at-map (lowest-fan a)) (given-at-map (lowest-fan b))
     (else-map (given-map (loop-alike a)) (given-map (loop-alike b))
-    (else-map (given-at-map (lowest-reach a w)) (given-at-map (lowest-reach b (wired-alike a w))) (λ x e. e)))
-    s
+    (else-map (given-at-map (lowest-reach a w)) (given-at-map (lowest-reach b (wired-alike a w))) (λ e. e)))

@@ -28,7 +28,8 @@ use Rattle.netlist.specs.Order.{GivenAt}
 use Rattle.netlist.specs.Net.{graphOf, regsOf}
 use Rattle.rules.specs.Rules.{ruleOf}
 use Rattle.netlist.specs.Read.{FanInFits, InReach, All, Lowest, Judged}
-use Rattle.netlist.proofs.Rows.{column, column-in}
+use Rattle.netlist.specs.inner.Record.{rowsTo}
+use Rattle.netlist.proofs.Rows.{rowsTo-in}
 use Rattle.netlist.proofs.Order.{Some, Decided, else-some, given?}
 use Rattle.netlist.proofs.Judged.{all-none}
 
@@ -68,14 +69,14 @@ module _ {Rule : ℕ → Type 0} (n : ℕ) (x : ℕ → Said) (d : (v : ℕ) →
 -- ── Loops and reach ─────────────────────────────────────────────────────────────────────────
 
 module _ {G : Graph} (w : Wired G) where
-  listed : (count delay : ℕ → ℕ) (P : ℕ) (lab a : ℕ → ℕ) → Arrival G count delay P lab a → Arrival G count delay P lab (at (column (G .nodes) a (G .nodes)))
+  listed : (count delay : ℕ → ℕ) (P : ℕ) (lab a : ℕ → ℕ) → Arrival G count delay P lab a → Arrival G count delay P lab (at (rowsTo (G .nodes) a (G .nodes)))
   listed count delay P lab a t = record {
     within = λ u v p c. omega (arith, t .within u v p c, same v (walk-end w p));
     reached = λ v h. subst (Reached G count delay P lab v) (sym (same v h)) (t .reached v h);
   }
     where
-      same : (v : ℕ) → v < G .nodes → at (column (G .nodes) a (G .nodes)) v ≡ a v
-      same v h = column-in (G .nodes) a (G .nodes) (omega arith) v h
+      same : (v : ℕ) → v < G .nodes → at (rowsTo (G .nodes) a (G .nodes)) v ≡ a v
+      same v h = rowsTo-in (G .nodes) a (G .nodes) (omega arith) v h
 
   -- Delays 1, labels 0, and the number of nodes for the period: a late node, or none.
   loop? : (count : ℕ → ℕ) → Dec (Loop G count)
@@ -83,7 +84,7 @@ module _ {G : Graph} (w : Wired G) where
       let delay : ℕ → ℕ = λ v. 1 in
       let lab : ℕ → ℕ = λ v. 0 in
       let a = arrival-times w count delay (G .nodes) lab in
-      let time = column (G .nodes) (a .0) (G .nodes) in
+      let time = rowsTo (G .nodes) (a .0) (G .nodes) in
       let tell = loop-told w count delay lab (λ v h. refl) (λ v h. refl) time (listed count delay (G .nodes) lab (a .0) (a .1)) in
       ⊎-elim
       (λ r. yes (tell true (record { node = r .0; within = r .1; above = r .2 })))
@@ -96,7 +97,7 @@ module _ {G : Graph} (w : Wired G) where
       let none : ℕ → ℕ = λ e. 0 in
       let delay : ℕ → ℕ = λ u. markOf (G .kind u) pin in
       let a = arrival-times w none delay 0 none in
-      let time = column (G .nodes) (a .0) (G .nodes) in
+      let time = rowsTo (G .nodes) (a .0) (G .nodes) in
       told? (eqb (at time v) 1) (from-told w none delay none pin (λ e l. refl) (λ u l. refl) (λ u l. refl) time (listed none delay 0 none (a .0) (a .1)) v h)
 
 pub joined? : {G : Graph} → Wired G → (v : ℕ) → v < G .nodes → Dec (InReach G v)

@@ -11,11 +11,11 @@ use native.Mathlib.Decide.{decLt}
 use mathlib.Core.Path.{_≡_, refl, ap, _∙_, subst}
 use mathlib.Core.List.{List}
 use Rattle.netlist.specs.declared.Netlist.{Netlist}
-use Rattle.theory.specs.Walk.{Loop}
 use Rattle.netlist.specs.Answer.{Said, value, whole, atNode}
 use Rattle.netlist.specs.Order.{past, GivenAt}
-use Rattle.netlist.specs.Net.{emptyNet, graphOf, regsOf}
-use Rattle.netlist.specs.Read.{fault, lines, linesOf, FanInFits, InReach, All, Lowest, Judged, kept, Reads, faulty, judged}
+use Rattle.netlist.specs.Net.{emptyNet}
+use Rattle.netlist.specs.Circuit.{LoopIn}
+use Rattle.netlist.specs.Read.{fault, lines, linesOf, All, Lowest, Judged, kept, Reads, faulty, judged, AllInReach, FanInsFit}
 use Rattle.netlist.proofs.Fits.{clash}
 use Rattle.netlist.proofs.Order.{One, else-one, given-one, given-at-one, otherwise-one}
 
@@ -34,11 +34,11 @@ all-none a x (v, l, e) = l .breaks (a v (l .there))
 pub one-judged : (net : Netlist) → One (Judged net)
 one-judged net =
     else-one (given-at-one (atNode 5) lowest-one)
-    (else-one (given-one (Loop (graphOf net) (regsOf net .count)) (whole 6))
+    (else-one (given-one (LoopIn net) (whole 6))
     (else-one (given-at-one (atNode 7) lowest-one) (otherwise-one (value 0))))
 
 -- Nothing is said against a netlist that keeps the rules.
-pub judged-sound : (net : Netlist) → All (FanInFits (graphOf net)) (net .nodes) → ¬ Loop (graphOf net) (regsOf net .count) → All (InReach (graphOf net)) (net .nodes)
+pub judged-sound : (net : Netlist) → FanInsFit net → ¬ LoopIn net → AllInReach net
     → Judged net (value 0)
 judged-sound net a o j = past (all-none a) (past (λ x g. o (g .0)) (past (all-none j) refl))
 

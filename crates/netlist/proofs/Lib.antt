@@ -23,5 +23,8 @@ pub mod Alike
 pub mod theorems
 -- From what a stage answered to what reading and writing say.
 pub mod Answered
+-- What a record in code holds; a record checked: one line more tested, one row more copied.
+pub mod Typed
+pub mod Checked
 -- A text read and written again.
 pub mod Rewritten

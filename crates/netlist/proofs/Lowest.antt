@@ -1,5 +1,4 @@
 -- The rules of the whole, as code asks them: what a test says of one node, and what a search has found.
---   few                 such a record has at most 512 nodes
 --   kind-low, count-low a gate kind is at most 9; no edge has more than 32 registers
 --   laid                a record whose lines are right, in columns
 --   fan-test            the test of rule 5 says whether a node keeps it
@@ -24,15 +23,12 @@ use Rattle.netlist.specs.Net.{graphOf}
 use Rattle.netlist.specs.Answer.{value, atNode}
 use Rattle.netlist.specs.Order.{here, past}
 use Rattle.rules.specs.Rules.{ruleOf}
-use Rattle.netlist.specs.Read.{FanInFits, InReach, All}
+use Rattle.netlist.specs.Read.{FanInFits, InReach, All, FanInsFit}
 use Rattle.netlist.specs.inner.Stages.{Sought}
 use Rattle.netlist.specs.Theorems.{Fit}
-use Rattle.netlist.proofs.Fits.{clash, within-true, head-fits, node-fits, edge-fits}
-use Rattle.netlist.proofs.Run.{fit-wired}
+use Rattle.netlist.proofs.Fits.{clash, within-true, node-fits, edge-fits}
+use Rattle.netlist.proofs.Run.{fit-rows, fit-wired}
 use Rattle.netlist.proofs.Judged.{all-none}
-
-pub few : (net : Netlist) → Fit net → net .nodes ≤ 512
-few net f = head-fits (net .period) (net .derate) (net .nodes) (net .edges) (f .head) .2
 
 pub kind-low : (net : Netlist) → Fit net → (v : ℕ) → v < net .nodes → at (net .kind) v < 10
 kind-low net f v h = omega (arith, node-fits (at (net .kind) v) (at (net .delay) v) (f .node v h) .0)
@@ -42,13 +38,13 @@ count-low net f e h = edge-fits (net .nodes) (graphOf net .kind) (at (net .from)
 
 pub laid : (net : Netlist) → Fit net → 1024 ≤ length (net .from) → 1024 ≤ length (net .to) → Laid (net .nodes) (net .edges) (net .from) (net .to)
 laid net f hf ht =
-    let h = head-fits (net .period) (net .derate) (net .nodes) (net .edges) (f .head) in
+    let h = fit-rows net f in
     let w = fit-wired net f in
     record {
-      nodes-fit = h .2;
-      edges-fit = h .3;
-      from-rows = omega (arith, h .3);
-      to-rows = omega (arith, h .3);
+      nodes-fit = h .0;
+      edges-fit = h .1;
+      from-rows = omega (arith, h .1);
+      to-rows = omega (arith, h .1);
       from-in = w .src-in;
       to-in = w .dst-in;
     }
@@ -69,7 +65,7 @@ fan-test G v x false e t = λ k.
     let high = le-leb x (ruleOf (G .kind v) .most) (rw e (k .1)) in
     clash (cc)
 
-pub fan-low : (net : Netlist) → All (FanInFits (graphOf net)) (net .nodes) → (v : ℕ) → v < net .nodes → fan-in (graphOf net) v ≤ 8
+pub fan-low : (net : Netlist) → FanInsFit net → (v : ℕ) → v < net .nodes → fan-in (graphOf net) v ≤ 8
 unfolding ruleOf
 fan-low net fan v h = go (ltb (at (net .kind) v) 1) (ltb (at (net .kind) v) 4) (fan v h .1)
   where

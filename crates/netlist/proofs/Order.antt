@@ -1,12 +1,14 @@
 -- Facts in a row: what a row says is one thing, and it says something.
 --   One, Some, Decided    a fact holds of one answer at most; of one; it is known whether of one
+--   meet                  two rows that begin alike say one thing
 --   else-one, else-some, else-map    of a row, from its members
---   first, later          the first member's fact decides; where it holds of nothing, the rest does
+--   decides, later        the first member's fact decides; where it holds of nothing, the rest does
 --   given-.., given-at-.., otherwise-one, stops-.., needs-..    the members
+--   no-stop, stopped      a call is not stopped by a reading that refuses nothing; it is by one that refuses
 use Prim.Native.Nat.{ℕ, _<_, _≤_}
 use native.Mathlib.Omega.{arith}
 use native.Mathlib.Decide.{decLt}
-use mathlib.Core.Path.{_≡_, refl, sym, ap, _∙_}
+use mathlib.Core.Path.{_≡_, refl, sym, ap, _∙_, subst}
 use mathlib.Core.Logic.{_⊎_, inl, inr}
 use Rattle.netlist.specs.Answer.{Said, value, refused, whole}
 use Rattle.netlist.specs.Order.{_orElse_, here, past, Given, GivenAt, Otherwise, Stops, Needs}
@@ -24,29 +26,32 @@ Decided F = Some F ⊎ ((s : Said) → ¬ F s)
 -- ── Rows ────────────────────────────────────────────────────────────────────────────────────
 
 module _ {F G : Said → Type 0} where
+  pub meet : {G′ : Said → Type 0} {s x : Said} → One F → (G s → G′ x → s ≡ x) → (F orElse G) s → (F orElse G′) x → s ≡ x
+  meet {s = s} {x} f g (here a) (here b) = f s x a b
+  meet {s = s} {x} f g (here a) (past n b) = absurd (n s a)
+  meet {s = s} {x} f g (past n a) (here b) = absurd (n x b)
+  meet f g (past n a) (past m b) = g a b
+
   pub else-one : One F → One G → One (F orElse G)
-  else-one f g s x (here a) (here b) = f s x a b
-  else-one f g s x (here a) (past n b) = absurd (n s a)
-  else-one f g s x (past n a) (here b) = absurd (n x b)
-  else-one f g s x (past n a) (past m b) = g s x a b
+  else-one f g s x = meet f (g s x)
 
   pub else-some : Decided F → Some G → Some (F orElse G)
   else-some (inl (s, a)) g = (s, here a)
   else-some (inr n) (s, b) = (s, past n b)
 
   -- What a row says where its first fact holds, and where it does not.
-  pub first : One F → (s x : Said) → F x → (F orElse G) s → F s
-  first f s x a (here b) = b
-  first f s x a (past n b) = absurd (n x a)
+  pub decides : {s x : Said} → One F → F x → (F orElse G) s → s ≡ x
+  decides {s} {x} f a (here b) = f s x b a
+  decides {s} {x} f a (past n b) = absurd (n x a)
 
   pub later : (s : Said) → ((x : Said) → ¬ F x) → (F orElse G) s → G s
   later s n (here a) = absurd (n s a)
   later s n (past m b) = b
 
   -- A row says no other thing where each of its facts is replaced by one that holds when it does.
-  pub else-map : {F′ G′ : Said → Type 0} → ((x : Said) → F x → F′ x) → ((x : Said) → F′ x → F x) → ((x : Said) → G x → G′ x) → (s : Said) → (F orElse G) s → (F′ orElse G′) s
-  else-map f b g s (here a) = here (f s a)
-  else-map f b g s (past n a) = past (λ x y. n x (b x y)) (g s a)
+  pub else-map : {F′ G′ : Said → Type 0} {s : Said} → ((x : Said) → F x → F′ x) → ((x : Said) → F′ x → F x) → (G s → G′ s) → (F orElse G) s → (F′ orElse G′) s
+  else-map {s = s} to from g (here a) = here (to s a)
+  else-map to from g (past n a) = past (λ x h. n x (from x h)) (g a)
 
 -- ── Facts ───────────────────────────────────────────────────────────────────────────────────
 
@@ -78,6 +83,12 @@ stops-one (refused q k p) s x a b = a ∙ sym b
 pub stops? : (c : Said) → Decided (Stops c)
 stops? (value n) = inr (λ s a. a)
 stops? (refused q k p) = inl (refused q k p, refl)
+
+pub no-stop : {c : Said} (n : ℕ) → c ≡ value n → (x : Said) → ¬ Stops c x
+no-stop n e x h = subst (λ c. Stops c x) e h
+
+pub stopped : {G : Said → Type 0} {c s : Said} {q k p : ℕ} → c ≡ refused q k p → (Stops c orElse G) s → s ≡ refused q k p
+stopped {G} {c} {s} {q} {k} {p} e row = decides (stops-one (refused q k p)) refl (subst (λ c. (Stops c orElse G) s) e row)
 
 -- A row that says a number was not stopped.
 pub stops-value : {G : Said → Type 0} (c : Said) {k : ℕ} → (Stops c orElse G) (value k) → (i : ℕ) × (c ≡ value i) × G (value k)

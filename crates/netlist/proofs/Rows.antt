@@ -1,6 +1,5 @@
 -- Rows of a record and lines of a text, one more at a time.
---   column m f n        m rows: f 0, f 1, … n of them, and 0 in the others
---   column-in, column-past, column-is    its rows; that a column with 0 past its n-th row is one
+--   rowsTo-in, rowsTo-past, rowsTo-is    a column's rows; that a column with 0 past its n-th row is one
 --   set-past            a column is 0 past its rows after one more is set
 --   rows-length, rows-in, rows-at    n rows of one member each: how many there are; the i-th, whatever stands past them
 --   joined-same         the joined lines depend on the lines that are joined
@@ -15,6 +14,7 @@ use lib.Seq.{getD-at, getD-set-other, ext-getD}
 use Rattle.graph.proofs.Fills.{fill-more}
 use Rattle.netlist.specs.Net.{zeros}
 use Rattle.netlist.specs.Write.{joined}
+use Rattle.netlist.specs.inner.Record.{rowsTo}
 
 -- ── Columns ─────────────────────────────────────────────────────────────────────────────────
 
@@ -33,34 +33,30 @@ zeros-at m i = go (decLt i m)
 pub set-past : (xs : List ℕ) (n a : ℕ) → ((i : ℕ) → n ≤ i → getD xs i 0 ≡ 0) → (i : ℕ) → suc n ≤ i → getD (set xs n a) i 0 ≡ 0
 set-past xs n a k i l = getD-set-other xs n i a 0 (omega arith) ∙ k i (omega arith)
 
-unfoldable pub column : ℕ → (ℕ → ℕ) → ℕ → List ℕ
-column m f zero = zeros m
-column m f (suc n) = set (column m f n) n (f n)
+pub length-rowsTo : (m : ℕ) (f : ℕ → ℕ) (n : ℕ) → length (rowsTo m f n) ≡ m
+unfolding rowsTo
+length-rowsTo m f zero = length-zeros m
+length-rowsTo m f (suc n) = length-set (rowsTo m f n) n (f n) ∙ length-rowsTo m f n
 
-pub length-column : (m : ℕ) (f : ℕ → ℕ) (n : ℕ) → length (column m f n) ≡ m
-unfolding column
-length-column m f zero = length-zeros m
-length-column m f (suc n) = length-set (column m f n) n (f n) ∙ length-column m f n
+pub rowsTo-in : (m : ℕ) (f : ℕ → ℕ) (n : ℕ) → n ≤ m → (i : ℕ) → i < n → getD (rowsTo m f n) i 0 ≡ f i
+unfolding rowsTo
+rowsTo-in m f zero h i l = absurd (omega arith)
+rowsTo-in m f (suc n) h i l = fill-more f (rowsTo m f n) n (f n) (omega (arith, length-rowsTo m f n)) refl (rowsTo-in m f n (omega arith)) i (omega arith)
 
-pub column-in : (m : ℕ) (f : ℕ → ℕ) (n : ℕ) → n ≤ m → (i : ℕ) → i < n → getD (column m f n) i 0 ≡ f i
-unfolding column
-column-in m f zero h i l = absurd (omega arith)
-column-in m f (suc n) h i l = fill-more f (column m f n) n (f n) (omega (arith, length-column m f n)) refl (column-in m f n (omega arith)) i (omega arith)
+pub rowsTo-past : (m : ℕ) (f : ℕ → ℕ) (n i : ℕ) → n ≤ i → getD (rowsTo m f n) i 0 ≡ 0
+unfolding rowsTo
+rowsTo-past m f zero i h = zeros-at m i
+rowsTo-past m f (suc n) i h = set-past (rowsTo m f n) n (f n) (rowsTo-past m f n) i h
 
-pub column-past : (m : ℕ) (f : ℕ → ℕ) (n i : ℕ) → n ≤ i → getD (column m f n) i 0 ≡ 0
-unfolding column
-column-past m f zero i h = zeros-at m i
-column-past m f (suc n) i h = set-past (column m f n) n (f n) (column-past m f n) i h
-
-pub column-is : (m n : ℕ) (xs : List ℕ) → length xs ≡ m → n ≤ m → ((i : ℕ) → n ≤ i → getD xs i 0 ≡ 0) → column m (λ i. getD xs i 0) n ≡ xs
-column-is m n xs q h past = ext-getD 0 (column m f n) xs (length-column m f n ∙ sym q) (λ i l. go i (decLt i n))
+pub rowsTo-is : (m n : ℕ) (xs : List ℕ) → length xs ≡ m → n ≤ m → ((i : ℕ) → n ≤ i → getD xs i 0 ≡ 0) → rowsTo m (λ i. getD xs i 0) n ≡ xs
+rowsTo-is m n xs q h past = ext-getD 0 (rowsTo m f n) xs (length-rowsTo m f n ∙ sym q) (λ i l. go i (decLt i n))
   where
     f : ℕ → ℕ
     f i = getD xs i 0
 
-    go : (i : ℕ) → Dec (i < n) → getD (column m f n) i 0 ≡ getD xs i 0
-    go i (yes l) = column-in m f n h i l
-    go i (no l) = column-past m f n i (omega arith) ∙ sym (past i (omega arith))
+    go : (i : ℕ) → Dec (i < n) → getD (rowsTo m f n) i 0 ≡ getD xs i 0
+    go i (yes l) = rowsTo-in m f n h i l
+    go i (no l) = rowsTo-past m f n i (omega arith) ∙ sym (past i (omega arith))
 
 -- ── Lines ───────────────────────────────────────────────────────────────────────────────────
 

@@ -1,6 +1,5 @@
 -- Reading what was written: line by line, each line that keeps its rules puts its row into the record.
 --   head-step, node-step, edge-step      one line
---   cut net n m                          the record of the first n nodes and the first m edges of net
 --   fit-rows                             a netlist that fits has no more nodes and edges than a record has rows
 --   fit-wired                            and its edges join nodes
 --   fit-less                             fewer lines keep their rules too
@@ -21,7 +20,8 @@ use Rattle.rules.specs.Rules.{headFits, nodeFits, edgeFits}
 use Rattle.netlist.specs.Read.{linesOf, nodesFrom, edgesFrom}
 use Rattle.netlist.specs.Write.{nodeLine, edgeLine, joined}
 use Rattle.netlist.specs.Theorems.{FitTo, Fit, toNode, toEdge}
-use Rattle.netlist.proofs.Rows.{column, column-in}
+use Rattle.netlist.specs.inner.Record.{rowsTo, cut}
+use Rattle.netlist.proofs.Rows.{rowsTo-in}
 use Rattle.netlist.proofs.Fits.{head-fits, node-fits, edge-fits, edge-fits-same}
 use Rattle.netlist.proofs.Fields.{headBytes, edgeBytes, four-numbers, four-frame, nodeBytes, node-numbers, node-frame}
 
@@ -53,20 +53,6 @@ edge-step m e n net u v w s rest few h =
 
 -- ── All lines so far ────────────────────────────────────────────────────────────────────────
 
-abbrev pub cut : Netlist → ℕ → ℕ → Netlist
-cut net n m = record {
-  period = net .period;
-  derate = net .derate;
-  nodes = net .nodes;
-  edges = net .edges;
-  kind = column 512 (λ v. getD (net .kind) v 0) n;
-  delay = column 512 (λ v. getD (net .delay) v 0) n;
-  from = column 1024 (λ e. getD (net .from) e 0) m;
-  to = column 1024 (λ e. getD (net .to) e 0) m;
-  count = column 1024 (λ e. getD (net .count) e 0) m;
-  start = column 1024 (λ e. getD (net .start) e 0) m;
-}
-
 pub fit-less : {net : Netlist} {n m : ℕ} → FitTo net n m → (n′ m′ : ℕ) → n′ ≤ n → m′ ≤ m → FitTo net n′ m′
 fit-less f n′ m′ h k = record { head = f .head; node = λ v l. f .node v (omega arith); edge = λ e l. f .edge e (omega arith) }
 
@@ -86,11 +72,11 @@ module _ (net : Netlist) where
   pub cut-fits : {n m : ℕ} → FitTo net n m → (e u v w s : ℕ)
       → edgeFits (net .nodes) (graphOf (cut net (net .nodes) e) .kind) u v w s ≡ edgeFits (net .nodes) (graphOf net .kind) u v w s
   cut-fits f e = edge-fits-same (net .nodes) (graphOf (cut net (net .nodes) e) .kind) (graphOf net .kind)
-      (column-in 512 (λ i. getD (net .kind) i 0) (net .nodes) (fit-rows f .0))
+      (rowsTo-in 512 (λ i. getD (net .kind) i 0) (net .nodes) (fit-rows f .0))
 
   -- By the lines in turn: a written line reads as the numbers written, these keep its rule, and their row is put where the cut record has it. Here m nodes are left.
   pub run-nodes : (v m : ℕ) → m + v ≡ net .nodes → FitTo net v 0 → (rest : List ℕ) → linesOf (toNode net v ++ rest) ≡ nodesFrom m v (v + 2) rest (cut net v 0)
-  unfolding joined column withHead
+  unfolding joined rowsTo withHead
   run-nodes zero m q f rest =
       let e : m ≡ net .nodes = omega arith in
       rw (append-nil, e) (head-step (net .period) (net .derate) (net .nodes) (net .edges) rest (f .head))
@@ -104,7 +90,7 @@ module _ (net : Netlist) where
   -- The same with all nodes read and m edges left.
   pub run-edges : (e m : ℕ) → m + e ≡ net .edges → FitTo net (net .nodes) e → (rest : List ℕ)
       → linesOf (toEdge net e ++ rest) ≡ edgesFrom m e (net .nodes + e + 2) rest (cut net (net .nodes) e)
-  unfolding joined column nodesFrom
+  unfolding joined rowsTo nodesFrom
   run-edges zero m q f rest =
       let a : net .edges ≡ m = omega arith in
       let b : net .nodes + 2 ≡ net .nodes + 0 + 2 = omega arith in

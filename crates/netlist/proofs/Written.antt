@@ -6,19 +6,19 @@
 --   text-in             what `put_text` puts: the text
 --   text-nodes, text-edges, text-room    or nothing: too many nodes, too many edges, too little room
 --   text-put            so that is what is written by a caller that has made sure of rows and room
---   front-written       what is written stands at the front
 use Prim.Native.Nat.{ℕ, zero, suc, _+_, _*_, _≤_, _<_}
-use mathlib.Core.Path.{_≡_, ap, sym, _∙_}
+use mathlib.Core.Path.{_≡_, ap, _∙_}
 use mathlib.Core.List.{List, [], _++_}
 use native.Mathlib.Omega.{arith}
 use native.Mathlib.Nat.{mul-suc}
 use native.Mathlib.Numerals.{add-one}
 use borrow.Author.Tests.{le-leb, lt-leb}
-use lib.ListN.{length, take, drop, length-append}
-use lib.Seq.{sets, sets-eq, length-sets, take-at}
+use lib.ListN.{length, length-append}
+use lib.Seq.{sets, length-sets}
 use Rattle.frame.specs.Frame.{bytesOf, placed}
 use Rattle.frame.proofs.Laws.{length-line}
-use Rattle.frame.proofs.Buffers.{placed-room, sets-sets}
+use Rattle.theory.proofs.numbers.Stores.{sets-sets}
+use Rattle.frame.proofs.Buffers.{placed-room}
 use Rattle.netlist.specs.declared.Netlist.{Netlist}
 use Rattle.netlist.specs.Write.{headLine, nodeLine, edgeLine, joined, textOf, textIn}
 
@@ -92,9 +92,3 @@ module _ (net : Netlist) (m : ℕ) where
 pub text-put : (net : Netlist) (old new : List ℕ) (n : ℕ) → new ≡ sets old 0 (textIn net (length old)) → n ≡ length (textIn net (length old))
     → net .nodes ≤ 512 → net .edges ≤ 1024 → length (textOf net) ≤ length old → (new ≡ sets old 0 (textOf net)) × (n ≡ length (textOf net))
 text-put net old new n e l h k room = let w = text-in net (length old) h k room in (e ∙ ap (sets old 0) w, l ∙ ap length w)
-
--- What is written stands at the front.
-pub front-written : (old text new : List ℕ) (n : ℕ) → new ≡ sets old 0 text → n ≡ length text → length text ≤ length old → (take n new ≡ text) × (n ≤ length new)
-front-written old text new n e l h =
-    let s = sets-eq text old 0 (omega arith) in
-    (ap (take n) (e ∙ s) ∙ take-at text (drop (0 + length text) old) n (sym l), omega (arith, ap length e, length-sets old 0 text))

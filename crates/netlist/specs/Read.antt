@@ -2,6 +2,7 @@
 --   linesOf             the record that the lines fill, or the first fault of a line
 --   FanInFits, InReach  a node keeps rule 5, rule 7
 --   All, Lowest         all nodes keep a rule; the lowest that does not
+--   FanInsFit, WrongFanIn, AllInReach, OutOfReach    all nodes of a netlist keep rule 5, rule 7; the lowest that does not
 --   Judged net s        s is what rules 5, 6 and 7 say of a netlist whose lines are right
 --   Reads t s net       reading the text t says s and gives net
 use mathlib.Core.Path.{_≡_}
@@ -10,11 +11,12 @@ use mathlib.Core.List.{List, [], _∷_}
 use Prim.Native.Nat.{ℕ, zero, suc, _<_, _≤_}
 use Rattle.frame.specs.Frame.{onLine, frameAt, numberAt}
 use Rattle.theory.specs.Graph.{Graph}
-use Rattle.theory.specs.Walk.{Loop, FromInput, ToOutput}
+use Rattle.theory.specs.Walk.{FromInput, ToOutput}
 use Rattle.netlist.specs.declared.Netlist.{Netlist}
 use Rattle.netlist.specs.Answer.{Said, value, refused, whole, atLine, atNode}
 use Rattle.netlist.specs.Order.{_orElse_, Given, GivenAt, Otherwise}
-use Rattle.netlist.specs.Net.{emptyNet, withHead, withNode, withEdge, graphOf, regsOf}
+use Rattle.netlist.specs.Net.{emptyNet, withHead, withNode, withEdge, graphOf}
+use Rattle.netlist.specs.Circuit.{LoopIn}
 use Rattle.rules.specs.Rules.{ruleOf, headFits, nodeFits, edgeFits}
 use Rattle.graph.specs.Columns.{fan-in}
 
@@ -76,12 +78,24 @@ pub record Lowest (Rule : ℕ → Type 0) (n v : ℕ) : Type 0 where
   pub breaks : ¬ Rule v
   pub before : All Rule v
 
+abbrev pub FanInsFit : Netlist → Type 0
+FanInsFit net = All (FanInFits (graphOf net)) (net .nodes)
+
+abbrev pub WrongFanIn : Netlist → ℕ → Type 0
+WrongFanIn net v = Lowest (FanInFits (graphOf net)) (net .nodes) v
+
+abbrev pub AllInReach : Netlist → Type 0
+AllInReach net = All (InReach (graphOf net)) (net .nodes)
+
+abbrev pub OutOfReach : Netlist → ℕ → Type 0
+OutOfReach net v = Lowest (InReach (graphOf net)) (net .nodes) v
+
 -- "then 5, 6, 7". What reading says where it refuses nothing is 0, as it writes no bytes.
 abbrev pub Judged : Netlist → Said → Type 0
 Judged net =
-    GivenAt (Lowest (FanInFits (graphOf net)) (net .nodes)) (atNode 5)
-    orElse Given (Loop (graphOf net) (regsOf net .count)) (whole 6)
-    orElse GivenAt (Lowest (InReach (graphOf net)) (net .nodes)) (atNode 7)
+    GivenAt (WrongFanIn net) (atNode 5)
+    orElse Given (LoopIn net) (whole 6)
+    orElse GivenAt (OutOfReach net) (atNode 7)
     orElse Otherwise (value 0)
 
 -- A refusal gives an empty record.

@@ -19,14 +19,12 @@ use mathlib.Core.List.{List, [], _++_}
 use Prim.Native.Nat.{ℕ, _+_, _<_, _≤_}
 use lib.ListN.{length, getD, take, drop}
 use Rattle.frame.specs.Frame.{bad, frameAt, line, numberAt}
-use Rattle.theory.specs.Walk.{Loop}
-use Rattle.theory.specs.Gate.{gate}
-use Rattle.theory.specs.Retimer.{Sound}
 use Rattle.netlist.specs.declared.Netlist.{Netlist}
 use Rattle.netlist.specs.Answer.{Said, value, whole, atNode, atLine}
-use Rattle.netlist.specs.Net.{graphOf, regsOf}
+use Rattle.netlist.specs.Net.{graphOf}
+use Rattle.netlist.specs.Circuit.{LoopIn, SoundIn}
 use Rattle.rules.specs.Rules.{headFits, nodeFits, edgeFits}
-use Rattle.netlist.specs.Read.{FanInFits, fault, lines, linesOf, InReach, All, Lowest, Judged, Reads}
+use Rattle.netlist.specs.Read.{fault, lines, linesOf, Judged, Reads, AllInReach, FanInsFit, OutOfReach, WrongFanIn}
 use Rattle.netlist.specs.Write.{headLine, nodeLine, edgeLine, joined, textOf, Writes}
 
 -- ── No answer is free ───────────────────────────────────────────────────────────────────────
@@ -110,12 +108,12 @@ FaultPlace = (t : List ℕ) (s : Said) → linesOf t ≡ fault s → (q : ℕ) �
 
 -- 5, 6, 7 and success, of a text whose lines have no fault.
 pub record WholeFacts (t : List ℕ) (s : Said) (net read : Netlist) (h : linesOf t ≡ lines read) (r : Reads t s net) : Type 0 where
-  pub five : (v : ℕ) → (s ≡ atNode 5 v) ↔ Lowest (FanInFits (graphOf read)) (read .nodes) v
-  pub six : (s ≡ whole 6) ↔ (All (FanInFits (graphOf read)) (read .nodes) × Loop (graphOf read) (regsOf read .count))
+  pub five : (v : ℕ) → (s ≡ atNode 5 v) ↔ WrongFanIn read v
+  pub six : (s ≡ whole 6) ↔ (FanInsFit read × LoopIn read)
   pub seven : (v : ℕ) → (s ≡ atNode 7 v)
-      ↔ (All (FanInFits (graphOf read)) (read .nodes) × (¬ Loop (graphOf read) (regsOf read .count)) × Lowest (InReach (graphOf read)) (read .nodes) v)
+      ↔ (FanInsFit read × (¬ LoopIn read) × OutOfReach read v)
   pub none : (s ≡ value 0)
-      ↔ (All (FanInFits (graphOf read)) (read .nodes) × (¬ Loop (graphOf read) (regsOf read .count)) × All (InReach (graphOf read)) (read .nodes))
+      ↔ (FanInsFit read × (¬ LoopIn read) × AllInReach read)
 
 abbrev pub RefusalFacts : Type 0
 RefusalFacts = (t : List ℕ) (s : Said) (net read : Netlist) (h : linesOf t ≡ lines read) (r : Reads t s net) → WholeFacts t s net read h r
@@ -164,9 +162,9 @@ RecordJudged = (net : Netlist) → Fit net → (s : Said) (back : Netlist) → R
 -- The record itself keeps the rules 2 to 7.
 pub record Keeps (net : Netlist) : Type 0 where
   pub lines : Fit net
-  pub fan-in : All (FanInFits (graphOf net)) (net .nodes)
-  pub no-loop : ¬ Loop (graphOf net) (regsOf net .count)
-  pub joined : All (InReach (graphOf net)) (net .nodes)
+  pub fan-in : FanInsFit net
+  pub no-loop : ¬ LoopIn net
+  pub joined : AllInReach net
 
 -- "Where nothing is broken the job is done": a record is written exactly where it keeps the rules and there is room; then it is its text that is written.
 abbrev pub SoundWritten : Type 0
@@ -178,7 +176,7 @@ SoundWritten = (net : Netlist) → Typed net → (old : List ℕ) (n : ℕ) (new
 
 -- What reads is a sound circuit, so the theory speaks of it.
 abbrev pub ReadIsSound : Type 0
-ReadIsSound = (t : List ℕ) (net : Netlist) → Reads t (value 0) net → Sound gate (graphOf net) (regsOf net)
+ReadIsSound = (t : List ℕ) (net : Netlist) → Reads t (value 0) net → SoundIn net
 
 -- ── Demand 2 ────────────────────────────────────────────────────────────────────────────────
 

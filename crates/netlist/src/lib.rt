@@ -2,14 +2,15 @@
 use graph::EDGES;
 use graph::NODES;
 
+mod checking;
 mod judging;
 mod lines;
 mod rewriting;
 mod writing;
 
+pub use checking::check;
 pub use lines::read;
 pub use rewriting::rewrite;
-pub use writing::check;
 pub use writing::put_text;
 pub use writing::write;
 

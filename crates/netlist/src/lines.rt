@@ -4,6 +4,7 @@ use graph::NODES;
 ghost use mathlib.Core.Path.{_≡_};
 ghost use Prim.Native.Nat.{_+_, _*_, _≤_};
 ghost use lib.ListN.{getD, drop};
+ghost use Rattle.frame.specs.inner.Decoded.{Digits};
 ghost use Rattle.netlist.specs.Answer.{says};
 ghost use Rattle.netlist.specs.inner.Stages.{Goes, Lined};
 ghost use Rattle.netlist.specs.Net.{emptyNet, withHead};
@@ -69,11 +70,12 @@ fn quad(high: u16, low: u16) -> u32
 }
 
 // The head line.
-fn read_head(text: &[u8]) -> Filled
+fn read_head(table: &[u8], text: &[u8]) -> Filled
+    requires { ⌜ Digits (now table) ⌝ }
     ensures { λ r. ⌜ Goes (r .answer) (linesOf (now (text .entry))) (nodesFrom (r .net .nodes) 0 2 (drop (r .at) (now (text .entry))) (r .net)) (r .net) ⌝ }
     ensures { λ r. ⌜ (r .net .nodes ≤ 512) × (r .net .edges ≤ 1024) ⌝ }
 {
-    let f = frame::frame_at(text, 0, 1, 7);
+    let f = frame::frame_by(table, text, 0, 1, 7);
     if !f.ok {
         return fault(1, 1);
     }
@@ -93,7 +95,8 @@ fn read_head(text: &[u8]) -> Filled
 }
 
 // The node lines from the cursor `at0`, line 2.
-fn read_nodes(text: &[u8], at0: usize, net0: Netlist) -> Filled
+fn read_nodes(table: &[u8], text: &[u8], at0: usize, net0: Netlist) -> Filled
+    requires { ⌜ Digits (now table) ⌝ }
     requires { ⌜ (net0 .nodes ≤ 512) × (net0 .edges ≤ 1024) ⌝ }
     ensures { λ r. ⌜ Goes (r .answer) (nodesFrom (net0 .nodes) 0 2 (drop at0 (now (text .entry))) net0) (edgesFrom (r .net .edges) 0 (2 + r .net .nodes) (drop (r .at) (now (text .entry))) (r .net)) (r .net) ⌝ }
     ensures { λ r. ⌜ (r .net .nodes ≤ 512) × (r .net .edges ≤ 1024) ⌝ }
@@ -103,7 +106,7 @@ fn read_nodes(text: &[u8], at0: usize, net0: Netlist) -> Filled
     let mut at = at0;
     let mut i = 0;
     while i < n {
-        let f = frame::frame_at(text, at, 2, 2);
+        let f = frame::frame_by(table, text, at, 2, 2);
         if !f.ok {
             return fault(1, 2 + i);
         }
@@ -144,7 +147,8 @@ fn edge_row(b: [u8; 16]) -> EdgeRow
 }
 
 // The edge lines from the cursor `at0`, after as many node lines as the head says.
-fn read_edges(text: &[u8], at0: usize, net0: Netlist) -> Filled
+fn read_edges(table: &[u8], text: &[u8], at0: usize, net0: Netlist) -> Filled
+    requires { ⌜ Digits (now table) ⌝ }
     requires { ⌜ (net0 .nodes ≤ 512) × (net0 .edges ≤ 1024) ⌝ }
     ensures { λ r. ⌜ Goes (r .answer) (edgesFrom (net0 .edges) 0 (2 + net0 .nodes) (drop at0 (now (text .entry))) net0) (nothingMore (drop (r .at) (now (text .entry))) (2 + r .net .nodes + r .net .edges) (r .net)) (r .net) ⌝ }
     ensures { λ r. ⌜ (r .net .nodes ≤ 512) × (r .net .edges ≤ 1024) ⌝ }
@@ -156,7 +160,7 @@ fn read_edges(text: &[u8], at0: usize, net0: Netlist) -> Filled
     let mut at = at0;
     let mut e = 0;
     while e < edges {
-        let f = frame::frame_at(text, at, 3, 9);
+        let f = frame::frame_by(table, text, at, 3, 9);
         if !f.ok {
             return fault(1, first + e);
         }
@@ -180,10 +184,11 @@ fn read_edges(text: &[u8], at0: usize, net0: Netlist) -> Filled
 }
 
 // Rules 1 to 4: all lines, and nothing after them.
-fn read_lines(text: &[u8]) -> Reading
+fn read_lines(table: &[u8], text: &[u8]) -> Reading
+    requires { ⌜ Digits (now table) ⌝ }
     ensures { λ r. ⌜ Lined (now (text .entry)) (r .answer) (r .net) ⌝ }
 {
-    let head = read_head(text);
+    let head = read_head(table, text);
     let a = head.answer;
     let headed = head.net;
     let Answer::Done(_) = a else {
@@ -192,7 +197,7 @@ fn read_lines(text: &[u8]) -> Reading
             net: headed,
         };
     };
-    let nodes = read_nodes(text, head.at, headed);
+    let nodes = read_nodes(table, text, head.at, headed);
     let b = nodes.answer;
     let noded = nodes.net;
     let Answer::Done(_) = b else {
@@ -201,7 +206,7 @@ fn read_lines(text: &[u8]) -> Reading
             net: noded,
         };
     };
-    let edges = read_edges(text, nodes.at, noded);
+    let edges = read_edges(table, text, nodes.at, noded);
     let c = edges.answer;
     let net = edges.net;
     let Answer::Done(_) = c else {
@@ -221,7 +226,8 @@ fn read_lines(text: &[u8]) -> Reading
 pub fn read(text: &[u8]) -> Reading
     ensures { λ r. ⌜ Reads (now (text .entry)) (says (r .answer)) (r .net) ⌝ }
 {
-    let lines = read_lines(text);
+    let table = frame::digit_table();
+    let lines = read_lines(&table, text);
     let a = lines.answer;
     let Answer::Done(_) = a else {
         return lines;

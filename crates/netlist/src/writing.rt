@@ -1,7 +1,6 @@
 // Writing: the lines of a record, one after the other at a cursor.
 use graph::EDGES;
 use graph::NODES;
-ghost use mathlib.Core.Bool.{true};
 ghost use mathlib.Core.List.{[], _∷_, _++_};
 ghost use mathlib.Core.Path.{_≡_};
 ghost use Prim.Native.Nat.{_+_, _*_, _≤_};
@@ -9,17 +8,12 @@ ghost use lib.ListN.{length, take};
 ghost use lib.Seq.{sets};
 ghost use Rattle.frame.specs.Frame.{bytesOf};
 ghost use Rattle.netlist.specs.Answer.{says};
-ghost use Rattle.netlist.specs.Read.{Reads};
-ghost use Rattle.rules.specs.Rules.{headFits};
 ghost use Rattle.netlist.specs.Write.{nodeLine, edgeLine, joined, textOf, textIn, Writes};
 use crate::Answer;
 use crate::Netlist;
 use crate::Place;
-use crate::Reading;
-use crate::lines::read;
-use crate::lines::with_head;
+use crate::checking::verdict;
 use frame::put_line;
-use rules::head_fits;
 
 // The bytes of the head line.
 fn head_bytes(period: u16, derate: u8, nodes: u16, edges: u16) -> [u8; 16]
@@ -111,9 +105,6 @@ const MOST_NODES: u16 = NODES as u16;
 
 const MOST_EDGES: u16 = EDGES as u16;
 
-// The longest text: a head of 17 bytes, nodes of 7 each, edges of 21 each.
-const LONGEST: usize = 17 + 7 * NODES + 21 * EDGES;
-
 // The text at the front of `out`, where the record has its rows and there is room; how many bytes that took, 0 where it left `out`.
 pub fn put_text(net: Netlist, out: &mut [u8]) -> usize
     ensures { λ r. ⌜ now (out .exit) ≡ sets (now (out .entry)) 0 (textIn net (length (now (out .entry)))) ⌝ }
@@ -134,35 +125,11 @@ pub fn put_text(net: Netlist, out: &mut [u8]) -> usize
     put_edges(net, out, at)
 }
 
-// A record whose head is in its ranges, written and read again.
-fn reread(net: Netlist) -> Reading
-    requires { ⌜ headFits (net .period) (net .derate) (net .nodes) (net .edges) ≡ true ⌝ }
-    ensures { λ r. ⌜ Reads (textOf net) (says (r .answer)) (r .net) ⌝ }
-{
-    let mut text = [0u8; LONGEST];
-    let n = put_text(net, &mut text);
-    read(&text[..n])
-}
-
-// Rules 2 to 7 of a record, "as if its lines were read": the netlist of these lines, or a refusal and an empty record.
-pub fn check(net: Netlist) -> Reading
-    ensures { λ r. ⌜ Reads (textOf net) (says (r .answer)) (r .net) ⌝ }
-{
-    if !head_fits(net.period, net.derate, net.nodes, net.edges) {
-        return Reading {
-            answer: Answer::Refused(2, Place::Line(1)),
-            net: with_head(0, 0, 0, 0),
-        };
-    }
-    reread(net)
-}
-
 // A netlist written to the front of `out`: how many bytes, or a refusal (2 to 7, 12), which leaves `out`.
 pub fn write(net: Netlist, out: &mut [u8]) -> Answer
     ensures { λ r. ⌜ Writes net (now (out .entry)) (says r) (now (out .exit)) ⌝ }
 {
-    let reading = check(net);
-    let a = reading.answer;
+    let a = verdict(net);
     let Answer::Done(_) = a else {
         return a;
     };

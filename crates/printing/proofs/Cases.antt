@@ -28,6 +28,7 @@ use Rattle.netlist.specs.Net.{zeros}
 use Rattle.netlist.specs.Order.{Given}
 use Rattle.netlist.specs.Read.{Reads}
 use Rattle.netlist.specs.Write.{joined, textOf}
+use Rattle.netlist.proofs.Order.{else-map}
 use Rattle.netlist.proofs.Rows.{length-zeros}
 use Rattle.netlist.proofs.Run.{fit-rows}
 use Rattle.netlist.proofs.Written.{length-joined}
@@ -37,7 +38,6 @@ use Rattle.simulate.proofs.Answered.{says-refused}
 use Rattle.lags.proofs.Laws.{read-sure}
 use Rattle.moves.specs.Moved.{movedNet}
 use Rattle.retime.specs.Retime.{Short, Retimes}
-use Rattle.retime.proofs.Order.{else-map}
 use Rattle.retime.proofs.Call.{back-reads}
 use Rattle.retime.proofs.theorems.Moved.{same-length}
 use Rattle.retime.proofs.theorems.Demand.{lags-fit}

@@ -8,7 +8,7 @@ use mathlib.Core.Path.{_≡_, refl, sym, ap, _∙_}
 use mathlib.Core.List.{List, [], _∷_, _++_, map}
 use lib.ListN.{length, take, set, getD, length-append, length-map}
 use lib.Seq.{sets, take-suc, length-take-le}
-use Rattle.frame.proofs.Buffers.{sets-sets}
+use Rattle.theory.proofs.numbers.Stores.{sets-sets}
 use Rattle.printing.specs.Printed.{bitDigit, digitLine}
 
 map-append : (xs ys : List ℕ) → map bitDigit (xs ++ ys) ≡ map bitDigit xs ++ map bitDigit ys

@@ -6,22 +6,21 @@ use Prim.Native.Nat.{ℕ, _<_, _≤_}
 use native.Mathlib.Omega.{arith}
 use native.Mathlib.Decide.{decLe}
 use mathlib.Core.Path.{_≡_, refl, sym, ap, _∙_, subst}
-use mathlib.Core.Logic.{_↔_}
+use mathlib.Core.Logic.{_↔_, ⊎-elim}
 use mathlib.Core.List.{List}
 use lib.IntN.{pos}
 use lib.ListN.{length, take, replicate}
 use lib.Seq.{take-all}
 use Rattle.netlist.specs.declared.Netlist.{Netlist}
-use Rattle.netlist.specs.Answer.{Said, value, refused}
+use Rattle.netlist.specs.Answer.{refused}
 use Rattle.netlist.specs.Net.{zeros}
 use Rattle.netlist.specs.Read.{Reads}
 use Rattle.netlist.proofs.Run.{fit-rows}
 use Rattle.netlist.proofs.Written.{text-length}
 use Rattle.netlist.proofs.theorems.Lines.{lines-fact}
 use Rattle.netlist.proofs.theorems.More.{more-decides-nothing as more-reads-nothing}
-use Rattle.netlist.proofs.theorems.Some.{some-reading}
 use Rattle.netlist.proofs.theorems.Sound.{reads-value}
-use Rattle.retime.proofs.Call.{unread}
+use Rattle.retime.proofs.Call.{reading, unread}
 use Rattle.retime.proofs.theorems.Refusals.{unread-fact}
 use Rattle.printing.specs.Shown.{refusalLine}
 use Rattle.printing.specs.Listed.{listed, Prints}
@@ -47,14 +46,13 @@ module _ {t : List ℕ} {q k p : ℕ} {net : Netlist} (h : Reads t (refused q k 
 
 -- A text that reads is its netlist's: a head of 17 bytes, up to 512 nodes of 7 each, up to 1,024 edges of 21 each.
 long-refused : (t : List ℕ) → 25105 < length t → (q : ℕ) × (k : ℕ) × (p : ℕ) × (net : Netlist) × Reads t (refused q k p) net
-long-refused t long = go (some-reading t)
-  where
-    go : (s : Said) × (net : Netlist) × Reads t s net → (q : ℕ) × (k : ℕ) × (p : ℕ) × (net : Netlist) × Reads t (refused q k p) net
-    go (refused q k p, net, h) = (q, k, p, net, h)
-    go (value n, net, h) =
-        let f = lines-fact t net .0 (reads-value h .0) in
-        let rows = fit-rows net (f .0) in
-        absurd (let z : ⊥ = omega (arith, rows .0, rows .1, ap length (f .2), text-length net) in z)
+long-refused t long =
+    ⊎-elim (λ x. x)
+    (λ (net, h).
+    let f = lines-fact t net .0 (reads-value h .0) in
+    let rows = fit-rows net (f .0) in
+    absurd (let z : ⊥ = omega (arith, rows .0, rows .1, ap length (f .2), text-length net) in z))
+    (reading t)
 
 pub more-decides-nothing : MorePrintsNothingElse
 more-decides-nothing t n h b = go (decLe (length t) n)

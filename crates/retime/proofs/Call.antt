@@ -15,14 +15,14 @@ use Rattle.netlist.specs.Order.{here, past}
 use Rattle.netlist.specs.Read.{Reads}
 use Rattle.netlist.specs.Write.{textOf}
 use Rattle.netlist.proofs.Fits.{clash}
-use Rattle.netlist.proofs.Order.{later}
+use Rattle.netlist.proofs.Order.{later, no-stop, stopped}
 use Rattle.netlist.proofs.theorems.One.{one-reading}
 use Rattle.netlist.proofs.theorems.Some.{some-reading}
 use Rattle.simulate.proofs.Ran.{reads-zero}
 use Rattle.moves.specs.Moved.{movedNet}
 use Rattle.retime.specs.Retime.{NoneMeets, lagTable, MovedBy, Room, Short, Retimes}
 use Rattle.retime.specs.inner.Leaves.{FromShort, Leaves}
-use Rattle.retime.proofs.Order.{no-stop, stopped, no-short, no-none, least-said}
+use Rattle.retime.proofs.Order.{no-short, no-none, least-said}
 
 -- Reading that refuses nothing says 0.
 pub reading : (t : List ℕ) → ((q : ℕ) × (k : ℕ) × (p : ℕ) × (net : Netlist) × Reads t (refused q k p) net) ⊎ ((net : Netlist) × Reads t (value 0) net)
@@ -30,7 +30,7 @@ reading t = go (some-reading t)
   where
     go : (s : Said) × (net : Netlist) × Reads t s net → ((q : ℕ) × (k : ℕ) × (p : ℕ) × (net : Netlist) × Reads t (refused q k p) net) ⊎ ((net : Netlist) × Reads t (value 0) net)
     go (refused q k p, net, h) = inl (q, k, p, net, h)
-    go (value n, net, h) = inr (net, subst (λ m. Reads t (value m) net) (reads-zero h) h)
+    go (value n, net, h) = inr (net, reads-zero h)
 
 module _ {t out : List ℕ} {lags : List ℤ} where
   pub unread : {q k p : ℕ} {net : Netlist} → Reads t (refused q k p) net → Retimes t out lags (refused q k p) out lags
@@ -52,7 +52,7 @@ module _ {t out : List ℕ} {lags : List ℤ} where
       where
         go : (c : Said) → o .checked ≡ c → Reads t (value 0) (o .net)
         go (refused q k p) z = let y = stopped z (o .answer) in clash (cc)
-        go (value n) z = let h = subst (λ c. Reads t c (o .net)) z (o .reads) in subst (λ m. Reads t (value m) (o .net)) (reads-zero h) h
+        go (value n) z = reads-zero (subst (λ c. Reads t c (o .net)) z (o .reads))
 
   pub none : (net : Netlist) → Room t out lags net → NoneMeets net → Leaves (FromShort t out lags net) net out lags (whole 8) out lags
   none net room n = record { lag = λ v. pos 0; choice = 0; answer = past (no-short room) (here (n, refl)); buffer = refl; table = refl }

@@ -1,6 +1,4 @@
 -- Retiming's row of facts: 12, 8, 9, 10, 11, and else the netlist is moved.
---   meet, else-map, decides      laws of rows: two that begin alike say one thing; members that hold alike; the first fact decides
---   no-stop, stopped             a reading that refuses nothing does not stop the call; one that refuses does
 --   no-short, no-none, ..        of each fact, where it does not hold
 --   some-room, all-narrow        what is known where 12, 9 do not hold
 --   Says9, Says10, Says11        the members about the least lags
@@ -19,42 +17,19 @@ use mathlib.Core.List.{List}
 use lib.IntN.{ℤ}
 use lib.ListN.{length}
 use Rattle.theory.specs.Gate.{gate}
-use Rattle.theory.specs.Lag.{newCount}
-use Rattle.theory.specs.Move.{chosenIn, choiceOf}
-use Rattle.theory.specs.Retimer.{Sound}
 use Rattle.theory.proofs.moves.Best.{choice-bit}
 use Rattle.theory.proofs.least.Exists.{least-unique}
 use Rattle.netlist.specs.declared.Netlist.{Netlist}
 use Rattle.netlist.specs.Answer.{Said, value, refused, whole, atEdge}
 use Rattle.netlist.specs.Net.{graphOf, regsOf}
-use Rattle.netlist.specs.Order.{_orElse_, here, past, Given, GivenAt, Stops}
-use Rattle.netlist.proofs.Order.{One, first, later, given-one, stops-one}
+use Rattle.netlist.specs.Circuit.{BestAt, ManyAt, NarrowAt, SoundIn, StartlessAt, WideAt, choiceAt, chosenInAt}
+use Rattle.netlist.specs.inner.Words.{newCountAt}
+use Rattle.netlist.specs.Order.{here, past, Given, GivenAt}
+use Rattle.netlist.proofs.Order.{One, meet, else-map, later, given-one, given-map, given-at-one, given-at-map}
 use borrow.Author.Count.{below-more}
 use Rattle.moves.proofs.Lags.{count-alike, chosen-alike, best-alike, no-start-alike}
-use Rattle.retime.specs.Retime.{NoneMeets, LeastLags, WideAt, NarrowAt, ManyAt, StartlessAt, BestAt, MovedBy, Room, Short}
+use Rattle.retime.specs.Retime.{NoneMeets, LeastLags, MovedBy, Room, Short}
 use Rattle.retime.specs.inner.Leaves.{FromShort}
-
--- ── Rows ────────────────────────────────────────────────────────────────────────────────────
-
-module _ {F G : Said → Type 0} where
-  pub meet : {G′ : Said → Type 0} {s x : Said} → One F → (G s → G′ x → s ≡ x) → (F orElse G) s → (F orElse G′) x → s ≡ x
-  meet {s = s} {x} f g (here a) (here b) = f s x a b
-  meet {s = s} {x} f g (here a) (past n b) = absurd (n s a)
-  meet {s = s} {x} f g (past n a) (here b) = absurd (n x b)
-  meet f g (past n a) (past m b) = g a b
-
-  pub else-map : {F′ G′ : Said → Type 0} {s : Said} → ((x : Said) → F x → F′ x) → ((x : Said) → F′ x → F x) → (G s → G′ s) → (F orElse G) s → (F′ orElse G′) s
-  else-map {s = s} to from g (here a) = here (to s a)
-  else-map to from g (past n b) = past (λ x h. n x (from x h)) (g b)
-
-  pub decides : {s x : Said} → One F → F x → (F orElse G) s → s ≡ x
-  decides {s} {x} f a row = f s x (first f s x a row) a
-
-pub no-stop : {c : Said} (n : ℕ) → c ≡ value n → (x : Said) → ¬ Stops c x
-no-stop n e x h = subst (λ c. Stops c x) e h
-
-pub stopped : {G : Said → Type 0} {c s : Said} {q k p : ℕ} → c ≡ refused q k p → (Stops c orElse G) s → s ≡ refused q k p
-stopped {G} {c} {s} {q} {k} {p} e row = decides (stops-one (refused q k p)) refl (subst (λ c. (Stops c orElse G) s) e row)
 
 -- ── The facts ───────────────────────────────────────────────────────────────────────────────
 
@@ -88,28 +63,28 @@ module _ (net : Netlist) (r : ℕ → ℤ) where
   no-many n x ((_, m), _) = n m
 
   pub no-startless : (c : ℕ) → BestAt net r c → (x : Said) → ¬ Says11 x
-  no-startless c b x ((_, n), _) = n (choiceOf (graphOf net) (regsOf net .count) r c) (choice-bit gate (graphOf net) (regsOf net) r c) (b .carried)
+  no-startless c b x ((_, n), _) = n (choiceAt net r c) (choice-bit gate (graphOf net) (regsOf net) r c) (b .carried)
 
   -- Where no edge is the lowest that is too wide, none is too wide.
   all-narrow : LeastLags net r → ((x : Said) → ¬ Says9 x) → NarrowAt net r
   all-narrow l n e h = below (suc e) e (omega arith) h
     where
-      below : (m e : ℕ) → e < m → e < net .edges → newCount (graphOf net) (regsOf net .count) r e ≤ 32
+      below : (m e : ℕ) → e < m → e < net .edges → newCountAt net r e ≤ 32
       below zero e k = absurd (let z : ⊥ = omega arith in z)
       below (suc m) e k =
-          below-more (λ e. e < net .edges → newCount (graphOf net) (regsOf net .count) r e ≤ 32) m (below m)
+          below-more (λ e. e < net .edges → newCountAt net r e ≤ 32) m (below m)
           (λ h.
-          let not-wide : ¬ (32 < newCount (graphOf net) (regsOf net .count) r m) =
+          let not-wide : ¬ (32 < newCountAt net r m) =
           λ w. n (atEdge 9 m) (m, (l, record { edge = h; wide = w; lowest = λ i k. below m i k (omega arith) }), refl) in
           omega arith)
           e (omega arith)
 
   pub lowest-one : One Says9
-  lowest-one s x (e, (_, w), a) (i, (_, v), b) =
+  lowest-one =
+      given-at-one (atEdge 9) (λ e i (_, w) (_, v).
       let less : ¬ (e < i) = λ h. omega (arith, v .lowest e h, w .wide) in
       let more : ¬ (i < e) = λ h. omega (arith, w .lowest i h, v .wide) in
-      let same : e ≡ i = omega arith in
-      a ∙ ap (atEdge 9) same ∙ sym b
+      omega arith)
 
   module _ (c : ℕ) where
     pub wide : LeastLags net r → (e : ℕ) → WideAt net r e → MovedBy net r c (atEdge 9 e)
@@ -121,7 +96,7 @@ module _ (net : Netlist) (r : ℕ → ℤ) where
     pub startless : LeastLags net r → NarrowAt net r → ¬ ManyAt net r → StartlessAt net r → MovedBy net r c (whole 11)
     startless l n few x = past (no-wide n) (past (no-many few) (here ((l, x), refl)))
 
-    pub moved : LeastLags net r → NarrowAt net r → ¬ ManyAt net r → BestAt net r c → MovedBy net r c (value (chosenIn (graphOf net) (regsOf net .count) r))
+    pub moved : LeastLags net r → NarrowAt net r → ¬ ManyAt net r → BestAt net r c → MovedBy net r c (value (chosenInAt net r))
     moved l n few b = past (no-wide n) (past (no-many few) (past (no-startless c b) ((l, b), refl)))
 
     pub least-said : {s : Said} → MovedBy net r c s → LeastLags net r
@@ -132,23 +107,24 @@ module _ (net : Netlist) (r : ℕ → ℤ) where
 
 -- ── The least lags are one at each node ─────────────────────────────────────────────────────
 
-module _ (net : Netlist) (ok : Sound gate (graphOf net) (regsOf net)) (r q : ℕ → ℤ) (l : LeastLags net r) (m : LeastLags net q) where
-  counts : (e : ℕ) → e < net .edges → newCount (graphOf net) (regsOf net .count) r e ≡ newCount (graphOf net) (regsOf net .count) q e
+module _ (net : Netlist) (ok : SoundIn net) (r q : ℕ → ℤ) (l : LeastLags net r) (m : LeastLags net q) where
+  counts : (e : ℕ) → e < net .edges → newCountAt net r e ≡ newCountAt net q e
   counts = count-alike gate (graphOf net) (ok .wired) (regsOf net) r q (least-unique r q l m)
 
-  chosen : chosenIn (graphOf net) (regsOf net .count) r ≡ chosenIn (graphOf net) (regsOf net .count) q
+  chosen : chosenInAt net r ≡ chosenInAt net q
   chosen = chosen-alike gate (graphOf net) (ok .wired) (regsOf net) r q (least-unique r q l m)
 
   wide-alike : (x : Said) → Says9 net r x → Says9 net q x
-  wide-alike x (e, (_, w), z) =
+  wide-alike =
+      given-at-map (λ e (_, w).
       let h = w .edge in
-      (e, (m, record { edge = h; wide = omega (arith, w .wide, counts e h); lowest = λ i k. omega (arith, w .lowest i k, counts i (omega arith)) }), z)
+      (m, record { edge = h; wide = omega (arith, w .wide, counts e h); lowest = λ i k. omega (arith, w .lowest i k, counts i (omega arith)) }))
 
   many-alike : (x : Said) → Says10 net r x → Says10 net q x
-  many-alike x ((_, h), z) = ((m, omega (arith, chosen)), z)
+  many-alike = given-map (λ (_, h). (m, omega (arith, h, chosen)))
 
   startless-alike : (x : Said) → Says11 net r x → Says11 net q x
-  startless-alike x ((_, h), z) = ((m, no-start-alike gate (graphOf net) (regsOf net) ok r q (l .feasible .legal) (least-unique r q l m) h), z)
+  startless-alike = given-map (λ (_, h). (m, no-start-alike gate (graphOf net) (regsOf net) ok r q (l .feasible .legal) (least-unique r q l m) h))
 
   pub narrow-alike : NarrowAt net r → NarrowAt net q
   narrow-alike n e h = omega (arith, n e h, counts e h)
@@ -156,7 +132,7 @@ module _ (net : Netlist) (ok : Sound gate (graphOf net) (regsOf net)) (r q : ℕ
   pub few-alike : ¬ ManyAt net r → ¬ ManyAt net q
   few-alike n h = n (omega (arith, chosen))
 
-pub alike : (net : Netlist) → Sound gate (graphOf net) (regsOf net) → (r q : ℕ → ℤ) → LeastLags net q → (c : ℕ) {s : Said} → MovedBy net r c s → MovedBy net q c s
+pub alike : (net : Netlist) → SoundIn net → (r q : ℕ → ℤ) → LeastLags net q → (c : ℕ) {s : Said} → MovedBy net r c s → MovedBy net q c s
 alike net ok r q m c row =
     let l = least-said net r c row in
     else-map (wide-alike net ok r q l m) (wide-alike net ok q r m l)
@@ -198,11 +174,11 @@ module _ (t out : List ℕ) (lags : List ℤ) (net : Netlist) (r : ℕ → ℤ) 
       subst Fact (sym z)
       (record { room = some-room t out lags net a; least = l; narrow = all-narrow net r l w; few = λ k. m (whole 10) ((l, k), refl); best = h })
 
-  pub moved-at : Sound gate (graphOf net) (regsOf net) → Room t out lags net → (q : ℕ → ℤ) → LeastLags net q → {s : Said} → FromShort t out lags net r c s → MovedBy net q c s
+  pub moved-at : SoundIn net → Room t out lags net → (q : ℕ → ℤ) → LeastLags net q → {s : Said} → FromShort t out lags net r c s → MovedBy net q c s
   moved-at ok room q m {s} row = alike net ok r q m c (later s (no-none net q m) (later s (no-short room) row))
 
   -- The least lags are one at each node, so the rows of both from 9 on are rows of one.
-  pub one-said : Sound gate (graphOf net) (regsOf net) → (q : ℕ → ℤ) (d : ℕ) {s x : Said} → FromShort t out lags net r c s → FromShort t out lags net q d x → s ≡ x
+  pub one-said : SoundIn net → (q : ℕ → ℤ) (d : ℕ) {s x : Said} → FromShort t out lags net r c s → FromShort t out lags net q d x → s ≡ x
   one-said ok q d =
       meet (given-one _ _)
       (meet (given-one _ _)

@@ -102,7 +102,7 @@ module _ (t out : List ℕ) (lags : List ℤ) where
 
     module _ {n : ℕ} (e : a ≡ Done n) where
       pub reads : Reads t (value 0) net
-      reads = let d = reads-done a e r in subst (λ m. Reads t (value m) net) (reads-zero d) d
+      reads = reads-zero (reads-done a e r)
 
       pub goes-on : (s : Said) (out′ : List ℕ) (lags′ : List ℤ) → Leaves (FromShort t out lags net) net out lags s out′ lags′ → Promised s out′ lags′
       goes-on s out′ lags′ x = promised (of-left net reads x)

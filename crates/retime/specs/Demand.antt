@@ -13,16 +13,17 @@ use lib.IntN.{ℤ, pos}
 use lib.ListN.{length, getD, take}
 use Rattle.theory.specs.Clock.{Trace}
 use Rattle.theory.specs.Gate.{gate}
-use Rattle.theory.specs.Move.{Moved, Carries, choiceOf}
+use Rattle.theory.specs.Move.{Moved, Carries}
 use Rattle.theory.specs.Retimer.{Possible}
 use Rattle.netlist.specs.declared.Netlist.{Netlist}
 use Rattle.netlist.specs.Answer.{Said, value}
 use Rattle.netlist.specs.Net.{graphOf, regsOf, delayOf}
+use Rattle.netlist.specs.Circuit.{BestAt, ManyAt, NarrowAt, TraceIn, choiceAt}
 use Rattle.netlist.specs.Read.{Reads}
 use Rattle.netlist.specs.Write.{textOf}
 use Rattle.simulate.specs.Run.{Runs}
 use Rattle.moves.specs.Moved.{movedNet}
-use Rattle.retime.specs.Retime.{LeastLags, NarrowAt, ManyAt, BestAt, Room}
+use Rattle.retime.specs.Retime.{LeastLags, Room}
 
 -- "some legal retiming meets the period and carries the start": any lags, any counts, any choice of bits.
 abbrev pub Startable : Netlist → Type 0
@@ -52,8 +53,8 @@ pub record Came (t : List ℕ) (net : Netlist) (new : List ℕ) (r : ℕ → ℤ
   pub moved : new ≡ textOf (movedNet net r number)
   pub reads : Reads new (value 0) (movedNet net r number)
   -- Its registers are those of the paper's three cases (chosen, old, u's value in the original): "It depends on no input", so whatever inputs the original runs on.
-  pub registers : (ins x : ℕ → ℕ → ℕ) → Trace gate (graphOf net) (regsOf net) ins x
-      → Moved (graphOf net) (regsOf net) (regsOf (movedNet net r number)) r (choiceOf (graphOf net) (regsOf net .count) r number) x
+  pub registers : (ins x : ℕ → ℕ → ℕ) → TraceIn net ins x
+      → Moved (graphOf net) (regsOf net) (regsOf (movedNet net r number)) r (choiceAt net r number) x
   -- Its start is carried: the nodes of the new netlist give the old values, "where no input bears on it", so whatever inputs the new netlist runs on.
   pub carries : (ins y : ℕ → ℕ → ℕ) → Trace gate (graphOf net) (regsOf (movedNet net r number)) ins y → Carries (graphOf net) (regsOf net) r y
   -- "For every list of input vectors, refused lists included, running the original and running the retimed netlist … give the same answer and the same outputs at every clock."

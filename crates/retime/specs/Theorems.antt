@@ -13,11 +13,12 @@ use lib.IntN.{ℤ}
 use lib.ListN.{length}
 use Rattle.theory.specs.Lag.{up, down, Legal}
 use Rattle.netlist.specs.declared.Netlist.{Netlist}
-use Rattle.netlist.specs.Answer.{Said, value, refused, whole, atEdge}
 use Rattle.netlist.specs.Net.{graphOf, regsOf}
+use Rattle.netlist.specs.Circuit.{ManyAt, NarrowAt, StartlessAt, WideAt}
+use Rattle.netlist.specs.Answer.{Said, value, refused, whole, atEdge}
 use Rattle.netlist.specs.Read.{Reads}
 use Rattle.netlist.specs.Write.{textOf}
-use Rattle.retime.specs.Retime.{NoneMeets, LeastLags, WideAt, NarrowAt, ManyAt, StartlessAt, Room, Short, Retimes}
+use Rattle.retime.specs.Retime.{NoneMeets, LeastLags, Room, Short, Retimes}
 use Rattle.moves.specs.Moved.{movedNet}
 use Rattle.retime.specs.Demand.{ComesBack, tableLag, Demand3}
 

@@ -15,13 +15,11 @@ ghost use mathlib.Core.List.{[], _∷_, _++_};
 ghost use Prim.Native.Nat.{ℕ, _≤_, _<_};
 ghost use lib.ListN.{length, drop};
 ghost use lib.Seq.{sets};
-ghost use Rattle.theory.specs.Gate.{gate};
-ghost use Rattle.theory.specs.Retimer.{Sound};
 ghost use Rattle.graph.specs.Columns.{at};
 ghost use Rattle.netlist.specs.Answer.{value, says, holds};
-ghost use Rattle.netlist.specs.Net.{graphOf, regsOf};
 ghost use Rattle.netlist.specs.Read.{Reads};
 ghost use Rattle.netlist.specs.Write.{joined, textOf, textIn};
+ghost use Rattle.netlist.specs.Circuit.{SoundIn};
 ghost use Rattle.simulate.specs.inner.Ran.{Steppable};
 ghost use Rattle.lags.specs.inner.Lags.{Sure};
 ghost use Rattle.moves.specs.inner.Labels.{lagsOf, Labelled};
@@ -37,7 +35,7 @@ struct Retimed {
 
 // A netlist moved by its least labels: 9, 10 or 11, or the moved netlist.
 fn moved_by(net: Netlist, lab: &[u32]) -> Retimed
-    requires { ⌜ Steppable net × Sure net × Sound gate (graphOf net) (regsOf net) × Labelled net (now lab) ⌝ }
+    requires { ⌜ Steppable net × Sure net × SoundIn net × Labelled net (now lab) ⌝ }
     requires { ⌜ LeastLags net (lagsOf (now lab)) ⌝ }
     ensures { λ r. ⌜ MovesTo net (lagsOf (now (lab .entry))) (says (r .answer)) (r .net) ⌝ }
 {

@@ -24,7 +24,8 @@ use lib.ListN.{length, take, set, length-append, length-set}
 use lib.Seq.{sets, length-sets, getD-set-same}
 use Rattle.graph.specs.Columns.{at}
 use Rattle.graph.specs.inner.Sort.{Stands}
-use Rattle.graph.proofs.Sets.{sets-at, sets-sets}
+use Rattle.theory.proofs.numbers.Stores.{sets-sets}
+use Rattle.graph.proofs.Sets.{sets-at}
 use Rattle.graph.proofs.Fills.{fill-with}
 use Rattle.gates.specs.inner.Gates.{part}
 use Rattle.gates.proofs.Words.{part-length}

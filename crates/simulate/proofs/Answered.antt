@@ -105,7 +105,7 @@ module _ (t vectors old : List ℕ) (a : Answer) (net : Netlist) (reads : Reads 
     pub run-divisors : (0 < i) × (0 < o)
     run-divisors =
         let r = reads-done a e reads in
-        let k = has-pins t net (subst (λ k. Reads t (value k) net) (reads-zero r) r) in
+        let k = has-pins t net (reads-zero r) in
         (omega (arith, k .0), omega (arith, k .1))
 
     pub runs-size : ¬ (length vectors % i ≡ 0) → Runs t vectors old (whole 13) old

@@ -3,7 +3,7 @@
 --   shown-none, shown-some    its source's value where it has no register, else bit 0 of its word
 --   Fits, fit-words, words-fit    words without a bit at or above their edges' counts, and the test of it
 --   start-fits          the start values are such words
---   after-in, after-out, after-past    the words after a clock: the first E, and the others
+--   after-in, after-out, after-past, after-length    the words after a clock: the first E, and the others; how many
 --   value-input, value-gate   the values fit the inputs and the gates
 --   value-bit           they are bits
 --   value-same, output-same, after-same    they look at the first E words only
@@ -15,14 +15,13 @@ use native.Mathlib.Omega.{arith}
 use native.Mathlib.Decide.{ℕ-discrete}
 use mathlib.Core.Path.{_≡_, refl, sym, ap, ap₂, _∙_, subst}
 use mathlib.Core.Bool.{true}
-use mathlib.Core.List.{List}
-use lib.ListN.{length, getD, take, drop, length-append}
+use mathlib.Core.List.{List, [], _∷_}
+use lib.ListN.{length, getD, take, drop, length-append, length-drop}
 use lib.Dec.{ltb}
 use lib.Seq.{getD-drop}
 use borrow.Author.Tests.{eq-eqb, ne-eqb, ltb-true, lt-ltb}
 use borrow.Author.Count.{below-more}
 use Rattle.theory.specs.Graph.{Wired}
-use Rattle.theory.specs.Walk.{Loop}
 use Rattle.theory.specs.Clock.{gather, sees, Trace, value}
 use Rattle.theory.specs.inner.Registers.{SameRegs}
 use Rattle.theory.specs.inner.Stepping.{edgeShows, showsIf}
@@ -36,8 +35,10 @@ use Rattle.theory.proofs.clocks.Gate.{gate-bit}
 use Rattle.netlist.specs.declared.Netlist.{Netlist}
 use Rattle.graph.specs.Columns.{bit}
 use Rattle.netlist.specs.Net.{graphOf, regsOf}
+use Rattle.netlist.specs.Circuit.{LoopIn}
+use Rattle.netlist.specs.Write.{joined}
 use Rattle.netlist.specs.Theorems.{Fit}
-use Rattle.netlist.proofs.Rows.{rows-at}
+use Rattle.netlist.proofs.Rows.{rows-at, rows-length}
 use Rattle.netlist.proofs.Fits.{both, edge-fits}
 use Rattle.simulate.specs.Clock.{earlier, inputs, outputs, inputByte, values, outputValues, shifted, wordAfter, wordsAfter}
 use Rattle.simulate.specs.Step.{onlyBits, wordsFit}
@@ -93,6 +94,10 @@ module _ (net : Netlist) (words vector : List ℕ) where
   unfolding wordsAfter
   after-in e h = rows-at (wordAfter net words vector) 0 (net .edges) e (drop (net .edges) words) h
 
+  pub after-length : net .edges ≤ length words → length (wordsAfter net words vector) ≡ length words
+  unfolding wordsAfter
+  after-length h = length-append (joined (λ e. wordAfter net words vector e ∷ []) (net .edges)) (drop (net .edges) words) ∙ omega (arith, rows-length (wordAfter net words vector) (net .edges), length-drop (net .edges) words)
+
   pub after-past : (n : ℕ) → net .edges ≤ n → drop n (wordsAfter net words vector) ≡ drop n words
   unfolding wordsAfter
   after-past n h = rows-past (wordAfter net words vector) (net .edges) n words h
@@ -104,7 +109,7 @@ module _ (net : Netlist) (words vector : List ℕ) where
 
 -- ── The values of a clock ───────────────────────────────────────────────────────────────────
 
-module _ (net : Netlist) (wired : Wired (graphOf net)) (no-loop : ¬ Loop (graphOf net) (regsOf net .count)) where
+module _ (net : Netlist) (wired : Wired (graphOf net)) (no-loop : ¬ LoopIn net) where
   module _ (words vector : List ℕ) where
     at-zero : Trace gate (graphOf net) (holding (regsOf net) (bitsOf words)) (λ u k. inputByte net vector u)
         (value gate (graphOf net) (holding (regsOf net) (bitsOf words)) (λ u k. inputByte net vector u))

@@ -77,7 +77,7 @@ module _ (net : Netlist) (p : Plan) (plan : Planned net p) (ok : Steppable net) 
     pub record Right (sig : List ℕ) (n : ℕ) : Type 0 where
       pub inputs : (v : ℕ) → v < net .nodes → at (net .kind) v ≡ 0 → at sig v ≡ now v
       pub done : (i : ℕ) → i < n → at sig (at (p .node) i) ≡ now (at (p .node) i)
-      pub shows : (e : ℕ) → e < net .edges → at sig (512 + e) ≡ bit (at words e) 0
+      pub shows : (e : ℕ) → e < net .edges → ¬ (at (net .count) e ≡ 0) → at sig (512 + e) ≡ bit (at words e) 0
 
     -- The source of an edge without a register is an input, or an earlier node of the plan; another edge shows its register.
     signal-right : (sig : List ℕ) (i e : ℕ) → Right sig i → i < p .gates → e < net .edges → at (net .to) e ≡ at (p .node) i
@@ -96,7 +96,7 @@ module _ (net : Netlist) (p : Plan) (plan : Planned net p) (ok : Steppable net) 
             ∙ sym (shown-none net words now e z)
         go (no z) =
             ap (λ t. at sig (cond t u (512 + e))) (ne-eqb (at (net .count) e) 0 z)
-            ∙ r .shows e l ∙ sym (shown-some net words now e (omega arith))
+            ∙ r .shows e l z ∙ sym (shown-some net words now e (omega arith))
 
     -- What node i of the plan gives.
     abbrev given : List ℕ → ℕ → ℕ
@@ -117,7 +117,7 @@ module _ (net : Netlist) (p : Plan) (plan : Planned net p) (ok : Steppable net) 
     right-more sig i n h r = record {
       inputs = λ u k q. keep u (r .inputs u k q);
       done = λ j k. last j k (ℕ-discrete j i);
-      shows = λ e k. getD-set-other sig v (512 + e) x 0 (let z : ¬ (512 + e ≡ v) = λ q. omega (arith, plan .gate i h .0, fit-rows net (ok .fit) .0) in z) ∙ r .shows e k;
+      shows = λ e k q. getD-set-other sig v (512 + e) x 0 (let z : ¬ (512 + e ≡ v) = λ q. omega (arith, plan .gate i h .0, fit-rows net (ok .fit) .0) in z) ∙ r .shows e k q;
     }
       where
         v : ℕ

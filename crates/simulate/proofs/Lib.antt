@@ -10,7 +10,9 @@ pub mod Seen
 pub mod Plans
 -- The tests of rule 13, a turn at a time.
 pub mod Asked
--- The loops of one clock, a turn at a time.
+-- What a run lists; stores over a list; the parts of one clock, over these lists.
+pub mod Listed
+pub mod Written
 pub mod Signals
 -- One clock of the code is one clock of the paper; clocks in a row.
 pub mod Evaluated

@@ -8,15 +8,15 @@ use mathlib.Core.Logic.{_⊎_, inl, inr}
 use mathlib.Core.List.{List}
 use lib.ListN.{length}
 use Rattle.graph.specs.Columns.{at}
-use Rattle.graph.specs.inner.Sort.{Sorts, Ordered}
+use Rattle.graph.specs.inner.Sort.{Ordered}
 use Rattle.graph.specs.inner.Lists.{Filtered}
 use Rattle.gates.specs.inner.Gates.{Reckons, Table}
 use Rattle.netlist.specs.declared.Netlist.{Netlist}
 use Rattle.netlist.specs.Theorems.{Fit}
-use Rattle.netlist.proofs.Lowest.{few}
+use Rattle.netlist.proofs.Run.{fit-rows}
 use Rattle.simulate.specs.declared.plan.Plan.{Plan}
 use Rattle.simulate.specs.inner.Plan.{signal, NoInput, Planned}
-use Rattle.simulate.proofs.Seen.{ins-edge, first-rises, first-low, seen-signals}
+use Rattle.simulate.proofs.Seen.{Entering}
 
 module _ (net : Netlist) (p : Plan) (f : Fit net) (order : List ℕ) (o : Ordered (net .nodes) (net .edges) (net .from) (net .to) (net .count) order)
     (kept : Filtered (NoInput (net .kind)) order (net .nodes) (p .node) (p .gates)) where
@@ -42,18 +42,18 @@ module _ (net : Netlist) (p : Plan) (f : Fit net) (order : List ℕ) (o : Ordere
           let t = k .before (s .place) (s .within) (λ y. n (ap (at (net .kind)) (sym (s .holds)) ∙ y)) in
           inr (t .place, t .within, t .holds ∙ s .holds)
 
-  pub planned : {old ins : List ℕ} → net .edges ≤ length old → Sorts (net .to) (net .edges) (net .nodes) old ins (p .first)
+  pub planned : {ins : List ℕ} → Entering net ins (p .first)
       → net .edges ≤ length (p .sees) → ((k : ℕ) → k < net .edges → at (p .sees) k ≡ signal net (at ins k))
       → ((v : ℕ) → v < net .nodes → Reckons (at (net .kind) v) (at (p .first) (suc v) - at (p .first) v) (at (p .truth) v))
       → Table (p .index) → Planned net p
-  planned {old} {ins} room s rows signals truths table = record {
-    few = omega (arith, kept .few, few net f);
+  planned {ins} en rows signals truths table = record {
+    few = omega (arith, kept .few, fit-rows net f .0);
     gate = gate-in;
     every = gate-every;
     after = gate-after;
-    range = λ v h. (first-rises net f room s v h, first-low net f room s (suc v) h);
-    each = λ k h. (at ins k, ins-edge net f room s k h, signals k h);
-    ins = seen-signals net f room s (signal net) (p .sees) rows signals;
+    range = λ v h. (en .rising v h, en .within v h);
+    each = λ k h. (at ins k, en .edge k h, signals k h);
+    ins = en .its (signal net) (p .sees) rows signals;
     truth = truths;
     table = table;
   }

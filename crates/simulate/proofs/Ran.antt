@@ -1,67 +1,57 @@
 -- Clocks in a row: one clock by what its parts do, and the loop over the vectors.
 --   reads-zero, reads-steppable    reading says 0; a netlist that reads can be stepped
---   net-movable         its words can be moved on
 --   State, Clocked      signals, words and buffer; what the parts of a clock do to them
 --   clock-puts, clock-leaves    what they do is one clock: outputs, words
---   clock-size, clock-bits    its signals are as many as before, and bits
+--   clock-words         its words are as many as before
+--   clock-size, clock-bits    so are its signals, and bits
 --   Running, running-start, running-turn, running-end    the loop
 --   turn-room, begun-bits    what each turn finds
 use Prim.Native.Nat.{ℕ, suc, _+_, _-_, _*_, _<_, _≤_}
 use native.Mathlib.Omega.{arith}
 use native.Mathlib.Nat.{suc-mul, mul-le-mul-right}
 use native.Mathlib.Numerals.{add-one}
+use native.Mathlib.Decide.{decLt}
 use mathlib.Core.Path.{_≡_, refl, sym, ap, ap₂, _∙_, subst}
 use mathlib.Core.Bool.{true}
-use mathlib.Core.List.{List, [], _∷_, _++_, append-assoc, append-nil}
+use mathlib.Core.List.{List, [], _++_, append-assoc, append-nil}
 use lib.ListN.{length, take, drop, length-append, replicate}
-use lib.Seq.{sets, length-sets, getD-take, getD-drop, drop-drop}
-use Rattle.frame.proofs.Buffers.{sets-sets}
-use Rattle.theory.specs.Clock.{gather}
+use lib.Seq.{sets, length-sets, ext-getD, getD-take, getD-drop, drop-drop}
+use Rattle.theory.proofs.numbers.Stores.{sets-sets}
 use Rattle.theory.proofs.clocks.Seen.{gather-same}
 use Rattle.graph.specs.Columns.{at}
 use Rattle.gates.specs.inner.Gates.{AllBits, evaluated}
 use Rattle.gates.proofs.Row.{evaluated-length, evaluated-bits}
 use Rattle.netlist.specs.declared.Netlist.{Netlist}
 use Rattle.netlist.specs.Answer.{value}
-use Rattle.netlist.specs.Net.{zeros, graphOf}
+use Rattle.netlist.specs.Net.{zeros}
 use Rattle.netlist.specs.Read.{Reads}
-use Rattle.netlist.proofs.Fits.{edge-fits}
-use Rattle.netlist.proofs.Rows.{zeros-at, joined-same}
+use Rattle.netlist.proofs.Rows.{zeros-at}
 use Rattle.netlist.proofs.Run.{fit-rows, fit-wired}
 use Rattle.netlist.proofs.theorems.Refusals.{judged-zero}
 use Rattle.netlist.proofs.theorems.Sound.{reads-value, reads-keeps}
+use Rattle.simulate.specs.declared.touched.Lists.{Lists}
 use Rattle.simulate.specs.declared.plan.Plan.{Plan}
 use Rattle.simulate.specs.Clock.{earlier, inputs, outputs, inputByte, values, outputValues, shifted, wordsAfter}
 use Rattle.simulate.specs.Step.{onlyBits}
 use Rattle.simulate.specs.Run.{clocksFrom}
 use Rattle.simulate.specs.inner.Plan.{Planned}
-use Rattle.simulate.specs.inner.Signals.{SignalsSet, shiftedTo, Movable}
+use Rattle.simulate.specs.inner.Lists.{Touched}
+use Rattle.simulate.specs.inner.Signals.{withInputs, withOutputs, withShifts}
 use Rattle.simulate.specs.inner.Ran.{Steppable, Runnable, wordsFrom, Ran}
 use Rattle.simulate.proofs.Lists.{before-less, bits-at, bits-take, bits-drop}
-use Rattle.simulate.proofs.Clock.{Fits, fit-words, fits-after, value-input, output-length}
-use Rattle.simulate.proofs.Signals.{moved-length}
+use Rattle.simulate.proofs.Clock.{Fits, fit-words, after-in, after-out, after-length, fits-after, value-input, output-length}
+use Rattle.simulate.proofs.Written.{written-length}
+use Rattle.simulate.proofs.Signals.{entered, entered-at, shown-at, shown-stays, entered-length, entered-bits, outputs-put, shifts-in, shifts-out, shifts-length}
 use Rattle.simulate.proofs.Evaluated.{Right, right-values}
 
 -- Reading puts nothing out.
-pub reads-zero : {t : List ℕ} {n : ℕ} {net : Netlist} → Reads t (value n) net → n ≡ 0
-reads-zero {net = net} r = judged-zero net (reads-value r .1)
+pub reads-zero : {t : List ℕ} {n : ℕ} {net : Netlist} → Reads t (value n) net → Reads t (value 0) net
+reads-zero {t} {net = net} r = subst (λ n. Reads t (value n) net) (judged-zero net (reads-value r .1)) r
 
 pub reads-steppable : {t : List ℕ} {n : ℕ} {net : Netlist} → Reads t (value n) net → Steppable net
 reads-steppable r = let k = reads-keeps r in record { fit = k .lines; fans = k .fan-in; no-loop = k .no-loop }
 
 -- ── One clock ───────────────────────────────────────────────────────────────────────────────
-
-pub net-movable : (net : Netlist) → Steppable net → (length (net .from) ≡ 1024) × (length (net .count) ≡ 1024) → (words sig : List ℕ) → length words ≡ 1024 → length sig ≡ 1536
-    → Fits net words → Movable (net .from) (net .count) (net .edges) words (length sig)
-net-movable net ok rows words sig l size f =
-    let h = fit-rows net (ok .fit) in record {
-      in-from = omega (arith, rows .0, h .1);
-      in-count = omega (arith, rows .1, h .1);
-      in-words = omega (arith, h .1);
-      ends = λ e k. omega (arith, fit-wired net (ok .fit) .src-in e k, h .0);
-      counts = λ e k. edge-fits (net .nodes) (graphOf net .kind) _ _ _ _ (ok .fit .edge e k) .2;
-      fits = f;
-    }
 
 -- The signals, the words and the buffer.
 pub record State : Type 0 where
@@ -69,53 +59,77 @@ pub record State : Type 0 where
   pub words : List ℕ
   pub out : List ℕ
 
--- What one clock does, on the vector that begins at `taken`: the signals it begins with are evaluated, the outputs go to `given`, and the words move on.
-pub record Clocked (net : Netlist) (p : Plan) (vectors : List ℕ) (taken given : ℕ) (s s′ : State) : Type 0 where
+-- What one clock does, on the vector that begins at `used`: the signals it begins with are evaluated, the outputs go to `given`, and the words move on.
+pub record Clocked (net : Netlist) (p : Plan) (l : Lists) (vectors : List ℕ) (used given : ℕ) (s s′ : State) : Type 0 where
+  pub sig-rows : length (s .sig) ≡ 1536
+  pub words-rows : length (s .words) ≡ 1024
   pub begun : List ℕ
-  pub size : length begun ≡ 1536
-  pub begins : SignalsSet (net .kind) (net .nodes) (s .words) (net .edges) vectors taken (s .sig) begun
+  pub begins : begun ≡ entered l vectors used (s .words) (s .sig)
   pub evaluates : s′ .sig ≡ evaluated (net .kind) (p .node) (p .first) (p .sees) 0 (p .gates) begun
-  pub puts : s′ .out ≡ sets (s .out) given (gather (at (net .kind)) (at (s′ .sig)) 1 (net .nodes))
-  pub moves : s′ .words ≡ shiftedTo (net .from) (net .count) (s′ .sig) (s .words) (net .edges)
+  pub puts : s′ .out ≡ withOutputs (l .output) (l .outs) (s′ .sig) given (s .out)
+  pub moves : s′ .words ≡ withShifts (l .reg) (l .regs) (net .from) (net .count) (s′ .sig) (s .words)
 
-module _ (net : Netlist) (p : Plan) (plan : Planned net p) (ok : Steppable net) (vector : List ℕ) {vectors : List ℕ} {taken given : ℕ} {s s′ : State}
-    (bytes : (v : ℕ) → v < net .nodes → at (net .kind) v ≡ 0 → at vectors (taken + earlier net 0 v) ≡ inputByte net vector v)
-    (c : Clocked net p vectors taken given s s′) where
-  starts : Right net p plan ok (s .words) vector (c .begun) 0
-  unfolding earlier
-  starts = record {
-    inputs = λ v h q. c .begins .enters .inputs v h q ∙ bytes v h q ∙ sym (value-input net (fit-wired net (ok .fit)) (ok .no-loop) (s .words) vector v h q);
-    done = λ i h. absurd (let y : ⊥ = omega arith in y);
-    shows = c .begins .shows;
-  }
+module _ (net : Netlist) (p : Plan) (plan : Planned net p) (l : Lists) (lists : Touched net l) (ok : Steppable net) (vector : List ℕ)
+    {vectors : List ℕ} {used given : ℕ} {s s′ : State}
+    (bytes : (v : ℕ) → v < net .nodes → at (net .kind) v ≡ 0 → at vectors (used + earlier net 0 v) ≡ inputByte net vector v)
+    (c : Clocked net p l vectors used given s s′) where
+  size : length (c .begun) ≡ 1536
+  size = ap length (c .begins) ∙ entered-length l vectors used (s .words) (s .sig) ∙ c .sig-rows
+
+  -- The inputs' places are not the registers'.
+  starts : Right net p plan ok (s .words) vector (entered l vectors used (s .words) (s .sig)) 0
+  starts =
+      let rows = fit-rows net (ok .fit) in
+      let put = withInputs (l .input) (l .ins) vectors used (s .sig) in record {
+        inputs = λ v h q.
+            shown-stays net l lists (s .words) put v (omega (arith, rows .0))
+            ∙ entered-at net l lists vectors used (s .sig) (omega (arith, rows .0, c .sig-rows)) v h q
+            ∙ bytes v h q ∙ sym (value-input net (fit-wired net (ok .fit)) (ok .no-loop) (s .words) vector v h q);
+        done = λ i h. absurd (let y : ⊥ = omega arith in y);
+        shows = shown-at net l lists (s .words) put (omega (arith, rows .1, c .sig-rows, written-length (at (l .input)) (λ i. at vectors (used + i)) (l .ins) (s .sig)));
+      }
 
   ends : (v : ℕ) → v < net .nodes → at (s′ .sig) v ≡ values net (s .words) vector v
-  ends v h = ap (λ l. at l v) (c .evaluates) ∙ right-values net p plan ok (s .words) vector (c .begun) (c .size) starts v h
+  ends v h = ap (λ xs. at xs v) (c .evaluates) ∙ right-values net p plan ok (s .words) vector (c .begun) size (subst (λ xs. Right net p plan ok (s .words) vector xs 0) (sym (c .begins)) starts) v h
 
   pub clock-puts : s′ .out ≡ sets (s .out) given (outputValues net (s .words) vector)
   unfolding outputValues
-  clock-puts = c .puts ∙ ap (sets (s .out) given) (gather-same (at (net .kind)) (at (s′ .sig)) (values net (s .words) vector) 1 (net .nodes) (λ v h q. ends v h))
+  clock-puts =
+      c .puts ∙ outputs-put net l lists (s′ .sig) given (s .out)
+      ∙ ap (sets (s .out) given) (gather-same (at (net .kind)) (at (s′ .sig)) (values net (s .words) vector) 1 (net .nodes) (λ v h q. ends v h))
+
+  pub clock-words : length (s′ .words) ≡ 1024
+  clock-words = ap length (c .moves) ∙ shifts-length net l lists (s′ .sig) (s .words) ∙ c .words-rows
 
   pub clock-leaves : s′ .words ≡ wordsAfter net (s .words) vector
-  unfolding wordsAfter shiftedTo
-  clock-leaves =
-      c .moves
-      ∙ ap (λ l. l ++ drop (net .edges) (s .words))
-      (joined-same _ _ (net .edges)
-      (λ e h. ap (λ x. shifted (at (net .count) e) (at (s .words) e) x ∷ []) (ends (at (net .from) e) (fit-wired net (ok .fit) .src-in e h))))
+  clock-leaves = ext-getD 0 (s′ .words) (wordsAfter net (s .words) vector) (clock-words ∙ sym (after-length net (s .words) vector few ∙ c .words-rows)) (λ e h. go e (decLt e (net .edges)))
+    where
+      few : net .edges ≤ length (s .words)
+      few = omega (arith, fit-rows net (ok .fit) .1, c .words-rows)
+
+      go : (e : ℕ) → Dec (e < net .edges) → at (s′ .words) e ≡ at (wordsAfter net (s .words) vector) e
+      go e (yes h) =
+          ap (λ xs. at xs e) (c .moves) ∙ shifts-in net l lists (s′ .sig) (s .words) few e h
+          ∙ ap (shifted (at (net .count) e) (at (s .words) e)) (ends (at (net .from) e) (fit-wired net (ok .fit) .src-in e h))
+          ∙ sym (after-in net (s .words) vector e h)
+      go e (no h) =
+          ap (λ xs. at xs e) (c .moves) ∙ shifts-out net l lists (s′ .sig) (s .words) e (omega arith)
+          ∙ sym (after-out net (s .words) vector e (omega arith))
 
   pub clock-size : length (s′ .sig) ≡ 1536
-  clock-size = ap length (c .evaluates) ∙ evaluated-length (net .kind) (p .node) (p .first) (p .sees) 0 (c .begun) (p .gates) ∙ c .size
+  clock-size = ap length (c .evaluates) ∙ evaluated-length (net .kind) (p .node) (p .first) (p .sees) 0 (c .begun) (p .gates) ∙ size
 
   pub clock-bits : AllBits vectors → AllBits (s .sig) → AllBits (s′ .sig)
-  clock-bits v b = subst AllBits (sym (c .evaluates)) (evaluated-bits (net .kind) (p .node) (p .first) (p .sees) 0 (c .begun) (p .gates) (c .begins .enters .bits v b))
+  clock-bits v b =
+      subst AllBits (sym (c .evaluates)) (evaluated-bits (net .kind) (p .node) (p .first) (p .sees) 0 (c .begun) (p .gates)
+      (subst AllBits (sym (c .begins)) (entered-bits l vectors used (s .words) (s .sig) v b)))
 
 -- ── The loop ────────────────────────────────────────────────────────────────────────────────
 
 -- After t of n clocks: what is put out and what is still to be put out are the outputs of all clocks; so for the words.
-pub record Running (net : Netlist) (n : ℕ) (words₀ vectors old : List ℕ) (t taken given : ℕ) (s : State) : Type 0 where
+pub record Running (net : Netlist) (n : ℕ) (words₀ vectors old : List ℕ) (t used given : ℕ) (s : State) : Type 0 where
   pub low : t ≤ n
-  pub vectors-taken : taken ≡ t * inputs net
+  pub vectors-used : used ≡ t * inputs net
   pub outputs-given : given ≡ t * outputs net
   pub sig-size : length (s .sig) ≡ 1536
   pub sig-bits : AllBits (s .sig)
@@ -124,8 +138,8 @@ pub record Running (net : Netlist) (n : ℕ) (words₀ vectors old : List ℕ) (
   pub done : List ℕ
   pub done-size : length done ≡ given
   pub puts : s .out ≡ sets old 0 done
-  pub goes : done ++ clocksFrom net (n - t) (s .words) (drop taken vectors) ≡ clocksFrom net n words₀ vectors
-  pub moves : wordsFrom net (n - t) (s .words) (drop taken vectors) ≡ wordsFrom net n words₀ vectors
+  pub goes : done ++ clocksFrom net (n - t) (s .words) (drop used vectors) ≡ clocksFrom net n words₀ vectors
+  pub moves : wordsFrom net (n - t) (s .words) (drop used vectors) ≡ wordsFrom net n words₀ vectors
 
 pub bits-none : AllBits (replicate 1536 0)
 unfolding zeros
@@ -140,7 +154,7 @@ module _ (net : Netlist) (n : ℕ) (words₀ vectors old : List ℕ) (ask : Runn
       → Running net n words₀ vectors old 0 0 0 (record { sig = sig; words = words₀; out = old })
   running-start l sig size b = record {
     low = omega arith;
-    vectors-taken = omega arith;
+    vectors-used = omega arith;
     outputs-given = omega arith;
     sig-size = size;
     sig-bits = b;
@@ -153,57 +167,57 @@ module _ (net : Netlist) (n : ℕ) (words₀ vectors old : List ℕ) (ask : Runn
     moves = ap (λ k. wordsFrom net k words₀ vectors) (let z : n - 0 ≡ n = omega arith in z);
   }
 
-  pub running-end : (t taken given : ℕ) (s : State) → n ≤ t → Running net n words₀ vectors old t taken given s → Ran net n words₀ vectors old (s .words) (s .out)
+  pub running-end : (t used given : ℕ) (s : State) → n ≤ t → Running net n words₀ vectors old t used given s → Ran net n words₀ vectors old (s .words) (s .out)
   unfolding clocksFrom wordsFrom
-  running-end t taken given s h r =
+  running-end t used given s h r =
       let z : n - t ≡ 0 = omega arith in record {
         puts =
             r .puts
             ∙ ap (sets old 0)
-            (sym (append-nil (r .done)) ∙ ap (λ k. r .done ++ clocksFrom net k (s .words) (drop taken vectors)) (sym z) ∙ r .goes);
-        leaves = ap (λ k. wordsFrom net k (s .words) (drop taken vectors)) (sym z) ∙ r .moves;
+            (sym (append-nil (r .done)) ∙ ap (λ k. r .done ++ clocksFrom net k (s .words) (drop used vectors)) (sym z) ∙ r .goes);
+        leaves = ap (λ k. wordsFrom net k (s .words) (drop used vectors)) (sym z) ∙ r .moves;
       }
 
-  module _ {t taken given : ℕ} {s : State} (h : t < n) (r : Running net n words₀ vectors old t taken given s) where
+  module _ {t used given : ℕ} {s : State} (h : t < n) (r : Running net n words₀ vectors old t used given s) where
     -- There is a vector left, and room for its outputs.
-    pub turn-room : (taken + inputs net ≤ length vectors) × (given + outputs net ≤ length old) × (given + outputs net ≤ length (s .out))
+    pub turn-room : (used + inputs net ≤ length vectors) × (given + outputs net ≤ length old) × (given + outputs net ≤ length (s .out))
     turn-room =
         let o : given + outputs net ≤ length old = omega (arith, part-in t n (outputs net) h, r .outputs-given, ask .room) in
-        (omega (arith, part-in t n (inputs net) h, r .vectors-taken, ask .whole), o, omega (arith, ap length (r .puts), length-sets old 0 (r .done)))
+        (omega (arith, part-in t n (inputs net) h, r .vectors-used, ask .whole), o, omega (arith, ap length (r .puts), length-sets old 0 (r .done)))
 
     -- A clock begins: its signals are bits.
-    pub begun-bits : (begun : List ℕ) → SignalsSet (net .kind) (net .nodes) (s .words) (net .edges) vectors taken (s .sig) begun → AllBits begun
-    begun-bits begun b = b .enters .bits (λ k. bits-at vectors k (ask .vector-bits)) (r .sig-bits)
+    pub begun-bits : (l : Lists) (begun : List ℕ) → begun ≡ entered l vectors used (s .words) (s .sig) → AllBits begun
+    begun-bits l begun e = subst AllBits (sym e) (entered-bits l vectors used (s .words) (s .sig) (λ k. bits-at vectors k (ask .vector-bits)) (r .sig-bits))
 
     abbrev vector : List ℕ
-    vector = take (inputs net) (drop taken vectors)
+    vector = take (inputs net) (drop used vectors)
 
     vector-bits : onlyBits vector ≡ true
-    vector-bits = bits-take (inputs net) (drop taken vectors) (bits-drop taken vectors (ask .vector-bits))
+    vector-bits = bits-take (inputs net) (drop used vectors) (bits-drop used vectors (ask .vector-bits))
 
-    bytes : (v : ℕ) → v < net .nodes → at (net .kind) v ≡ 0 → at vectors (taken + earlier net 0 v) ≡ inputByte net vector v
-    bytes v l q = sym (getD-take (inputs net) (drop taken vectors) (earlier net 0 v) 0 (before-less net 0 v (net .nodes) q l) ∙ getD-drop taken vectors (earlier net 0 v) 0)
+    bytes : (v : ℕ) → v < net .nodes → at (net .kind) v ≡ 0 → at vectors (used + earlier net 0 v) ≡ inputByte net vector v
+    bytes v l q = sym (getD-take (inputs net) (drop used vectors) (earlier net 0 v) 0 (before-less net 0 v (net .nodes) q l) ∙ getD-drop used vectors (earlier net 0 v) 0)
 
-    module _ (p : Plan) (plan : Planned net p) where
-      pub running-turn : (taken′ given′ : ℕ) → taken′ ≡ taken + inputs net → given′ ≡ given + outputs net → (s′ : State) → Clocked net p vectors taken given s s′
-          → Running net n words₀ vectors old (t + 1) taken′ given′ s′
+    module _ (p : Plan) (plan : Planned net p) (l : Lists) (lists : Touched net l) where
+      pub running-turn : (used′ given′ : ℕ) → used′ ≡ used + inputs net → given′ ≡ given + outputs net → (s′ : State) → Clocked net p l vectors used given s s′
+          → Running net n words₀ vectors old (t + 1) used′ given′ s′
       unfolding clocksFrom wordsFrom
-      running-turn taken′ given′ i o s′ c = record {
+      running-turn used′ given′ i o s′ c = record {
         low = omega arith;
-        vectors-taken = omega (arith, r .vectors-taken, ap (λ k. k * inputs net) (add-one t), suc-mul t (inputs net));
+        vectors-used = omega (arith, r .vectors-used, ap (λ k. k * inputs net) (add-one t), suc-mul t (inputs net));
         outputs-given = omega (arith, r .outputs-given, ap (λ k. k * outputs net) (add-one t), suc-mul t (outputs net));
-        sig-size = clock-size net p plan ok vector bytes c;
-        sig-bits = clock-bits net p plan ok vector bytes c (λ k. bits-at vectors k (ask .vector-bits)) (r .sig-bits);
-        words-size = ap length (c .moves) ∙ moved-length (net .from) (net .count) (s′ .sig) (s .words) (net .edges) (omega (arith, fit-rows net (ok .fit) .1, r .words-size)) ∙ r .words-size;
+        sig-size = clock-size net p plan l lists ok vector bytes c;
+        sig-bits = clock-bits net p plan l lists ok vector bytes c (λ k. bits-at vectors k (ask .vector-bits)) (r .sig-bits);
+        words-size = clock-words net p plan l lists ok vector bytes c;
         fits = subst (Fits net) (sym leaves) (fits-after net (fit-wired net (ok .fit)) (ok .no-loop) (s .words) vector vector-bits (r .fits));
         done = r .done ++ put;
         done-size = length-append (r .done) put ∙ omega (arith, r .done-size, output-length net (s .words) vector);
-        puts = clock-puts net p plan ok vector bytes c ∙ ap (λ l. sets l given put) (r .puts) ∙ sets-sets (r .done) put old 0 given (omega (arith, r .done-size));
+        puts = clock-puts net p plan l lists ok vector bytes c ∙ ap (λ xs. sets xs given put) (r .puts) ∙ sets-sets (r .done) put old 0 given (omega (arith, r .done-size));
         goes =
             append-assoc (r .done) put _
-            ∙ ap (λ l. r .done ++ l) (ap₂ (λ w l. put ++ clocksFrom net (n - (t + 1)) w l) leaves (sym rest) ∙ ap (λ k. clocksFrom net k (s .words) (drop taken vectors)) one)
+            ∙ ap (λ l. r .done ++ l) (ap₂ (λ w l. put ++ clocksFrom net (n - (t + 1)) w l) leaves (sym rest) ∙ ap (λ k. clocksFrom net k (s .words) (drop used vectors)) one)
             ∙ r .goes;
-        moves = ap₂ (λ w l. wordsFrom net (n - (t + 1)) w l) leaves (sym rest) ∙ ap (λ k. wordsFrom net k (s .words) (drop taken vectors)) one ∙ r .moves;
+        moves = ap₂ (λ w l. wordsFrom net (n - (t + 1)) w l) leaves (sym rest) ∙ ap (λ k. wordsFrom net k (s .words) (drop used vectors)) one ∙ r .moves;
       }
         where
           ok : Steppable net
@@ -213,10 +227,10 @@ module _ (net : Netlist) (n : ℕ) (words₀ vectors old : List ℕ) (ask : Runn
           put = outputValues net (s .words) vector
 
           leaves : s′ .words ≡ wordsAfter net (s .words) vector
-          leaves = clock-leaves net p plan ok vector bytes c
+          leaves = clock-leaves net p plan l lists ok vector bytes c
 
-          rest : drop (inputs net) (drop taken vectors) ≡ drop taken′ vectors
-          rest = drop-drop (inputs net) taken vectors ∙ ap (λ k. drop k vectors) (sym i)
+          rest : drop (inputs net) (drop used vectors) ≡ drop used′ vectors
+          rest = drop-drop (inputs net) used vectors ∙ ap (λ k. drop k vectors) (sym i)
 
           one : suc (n - (t + 1)) ≡ n - t
           one = omega arith

@@ -1,56 +1,56 @@
--- What each node sees, where the edges are sorted by the node that they enter.
---   ins-edge            each place of the sorted edges holds an edge
---   first-rises         where a node's part begins, the part before has ended
---   first-low           and no part begins past the edges
---   seen-count          a node's part is as long as its fan-in
---   seen-signals        the signals of a node's part, in the order of the edges
+-- The edges by the node that they enter, and what each node sees.
+--   Entering            where the edges of each node stand; a column beside them has what the node sees, in the order of the edges
+--   entering            so after sorting
 use Prim.Native.Nat.{ℕ, suc, _+_, _-_, _≤_, _<_}
 use native.Mathlib.Omega.{arith}
-use mathlib.Core.Path.{_≡_, ap, ap₂, _∙_}
-use mathlib.Core.List.{List, map}
-use lib.ListN.{length, take, drop, length-append}
+use native.Mathlib.Numerals.{add-one}
+use mathlib.Core.Path.{_≡_, sym, ap, _∙_}
+use mathlib.Core.List.{List}
+use lib.ListN.{length, take, drop}
 use Rattle.theory.specs.Clock.{gather}
-use Rattle.theory.proofs.clocks.Seen.{gather-map}
 use Rattle.graph.specs.Columns.{at, fan-in}
-use Rattle.graph.specs.inner.Sort.{group, sorted, Sorts}
-use Rattle.graph.proofs.Sorted.{sorted-place, sorted-grows, sorted-part, sorted-room, sorted-length}
-use Rattle.graph.proofs.Sets.{sets-at}
-use Rattle.graph.proofs.Parts.{part-map}
+use Rattle.graph.specs.inner.Sort.{Sorts, ByNode}
+use Rattle.graph.proofs.ByNode.{sorts-by-node, sorts-width, sorts-seen}
 use Rattle.gates.specs.inner.Gates.{part}
 use Rattle.netlist.specs.declared.Netlist.{Netlist}
 use Rattle.netlist.specs.Net.{graphOf}
+use Rattle.netlist.specs.Read.{FanInsFit}
 use Rattle.netlist.specs.Theorems.{Fit}
 use Rattle.netlist.proofs.Run.{fit-wired}
+use Rattle.netlist.proofs.Lowest.{fan-low}
 
-module _ (net : Netlist) (f : Fit net) {old ins first : List ℕ} (room : net .edges ≤ length old) (s : Sorts (net .to) (net .edges) (net .nodes) old ins first) where
-  all-edges : length (sorted (net .to) (net .edges) (net .nodes)) ≡ net .edges
-  all-edges = sorted-length (net .to) (net .edges) (net .nodes) (fit-wired net f .dst-in)
-
-  ins-at : (k : ℕ) → k < net .edges → at ins k ≡ at (sorted (net .to) (net .edges) (net .nodes)) k
-  ins-at k h = ap (λ xs. at xs k) (s .placed) ∙ sets-at (sorted (net .to) (net .edges) (net .nodes)) old k (omega (arith, all-edges)) (omega (arith, all-edges))
-
-  pub ins-edge : (k : ℕ) → k < net .edges → at ins k < net .edges
-  ins-edge k h = rw (ins-at k h) (sorted-place (net .to) (net .edges) (net .nodes) k (omega (arith, all-edges)) .item)
-
-  pub first-rises : (v : ℕ) → v < net .nodes → at first v ≤ at first (suc v)
-  first-rises v h = omega (arith, s .begins v (omega arith), s .begins (suc v) h, sorted-grows (net .to) (net .edges) v (suc v) (omega arith))
-
-  pub first-low : (v : ℕ) → v ≤ net .nodes → at first v ≤ net .edges
-  first-low v h = omega (arith, s .begins v h, sorted-room (net .to) (net .edges) v)
-
-  pub seen-count : (v : ℕ) → v < net .nodes → at first (suc v) - at first v ≡ fan-in (graphOf net) v
-  unfolding sorted
-  seen-count v h =
-      omega (arith, s .begins v (omega arith), s .begins (suc v) h, length-append (sorted (net .to) (net .edges) v) (group (net .to) v (net .edges)))
-
-  pub seen-signals : (f : ℕ → ℕ) (sees : List ℕ) → net .edges ≤ length sees → ((k : ℕ) → k < net .edges → at sees k ≡ f (at ins k))
+pub record Entering (net : Netlist) (ins first : List ℕ) : Type 0 where
+  pub rising : (v : ℕ) → v < net .nodes → at first v ≤ at first (suc v)
+  pub within : (v : ℕ) → v < net .nodes → at first (suc v) ≤ net .edges
+  pub few : (v : ℕ) → v < net .nodes → at first (suc v) ≤ at first v + 8
+  pub edge : (k : ℕ) → k < net .edges → at ins k < net .edges
+  pub its : (f : ℕ → ℕ) (sees : List ℕ) → net .edges ≤ length sees → ((k : ℕ) → k < net .edges → at sees k ≡ f (at ins k))
       → (v : ℕ) → v < net .nodes → part sees (at first v) (at first (suc v)) ≡ gather (at (net .to)) f v (net .edges)
-  seen-signals f sees rows w v h =
-      let n = at first (suc v) - at first v in
-      let low : at first v + n ≤ net .edges = omega (arith, first-rises v h, first-low (suc v) h) in
-      let all = sorted (net .to) (net .edges) (net .nodes) in
-      part-map f all sees n (at first v) (at first v) (omega arith) (omega (arith, all-edges))
-      (λ k l. w (at first v + k) (omega arith) ∙ ap f (ins-at (at first v + k) (omega arith)))
-      ∙ ap₂ (λ n b. map f (take n (drop b all))) (seen-count v h) (s .begins v (omega arith))
-      ∙ ap (map f) (sorted-part (net .to) (net .edges) v (net .nodes) h)
-      ∙ gather-map f (at (net .to)) (λ e. e) v (net .edges)
+
+module _ (net : Netlist) (fit : Fit net) (fans : FanInsFit net) {old ins first : List ℕ} (room : net .edges ≤ length old)
+    (s : Sorts (net .to) (net .edges) (net .nodes) old ins first) where
+  by-node : ByNode (net .to) (net .nodes) (net .edges) ins first
+  by-node = sorts-by-node (net .to) (net .nodes) (net .edges) (fit-wired net fit .dst-in) room s
+
+  rising : (v : ℕ) → v < net .nodes → at first v ≤ at first (suc v)
+  rising v h = omega (arith, by-node .up v h, ap (at first) (add-one v))
+
+  within : (v : ℕ) → v < net .nodes → at first (suc v) ≤ net .edges
+  within v h = omega (arith, by-node .within v h, ap (at first) (add-one v))
+
+  count : (v : ℕ) → v < net .nodes → at first (suc v) - at first v ≡ fan-in (graphOf net) v
+  count v h = ap (λ w. at first w - at first v) (sym (add-one v)) ∙ sorts-width (net .to) (net .nodes) (net .edges) (fit-wired net fit .dst-in) room s v h
+
+  pub entering : Entering net ins first
+  entering = record {
+    rising = rising;
+    within = within;
+    few = λ v h. omega (arith, count v h, fan-low net fans v h, rising v h);
+    edge = by-node .edge;
+    its = λ f sees rows shows v h.
+        let n = count v h in
+        let low = rising v h in
+        let high = within v h in
+        ap (λ m. take m (drop (at first v) sees)) n
+        ∙ sorts-seen (net .to) (net .nodes) (net .edges) (fit-wired net fit .dst-in) room s f sees (at first v) v h (omega arith) (λ k l. shows (at first v + k) (omega arith));
+  }

@@ -1,178 +1,120 @@
--- The loops of one clock, a turn at a time.
---   shown-start, shown-more    of no edge; one edge more
---   among-hit, among-miss, among-less    nodes of a kind, one node more
---   Entering, entering-start, entering-hit, entering-miss    of no node; one node more, an input or not
---   begun               the registers shown, with the inputs entered
---   Putting, putting-start, putting-length, putting-hit, putting-miss    so for the outputs
---   moved-start, moved-length, moved-at, moved-more    of no word; as many words; those still to be moved; one word more
-use Prim.Native.Nat.{ℕ, zero, suc, _+_, _%_, _<_, _≤_}
+-- The parts of one clock, over the lists of a netlist.
+--   entered-at          each input has its byte
+--   shown-at, shown-stays   each edge with a register shows it; the nodes' signals stay
+--   entered-length, entered-bits    the signals that a clock begins with: as many as before, and bits
+--   outputs-put         the outputs' signals stand in node order
+--   shifts-in, shifts-out, shifts-length    each edge's word is moved on, and no other word is; they are as many
+--   net-movable         the words of a netlist can be moved on
+use Prim.Native.Nat.{ℕ, _+_, _%_, _<_, _≤_}
 use native.Mathlib.Omega.{arith}
 use native.Mathlib.Nat.{div-one}
-use native.Mathlib.Numerals.{add-one}
 use native.Mathlib.Decide.{ℕ-discrete}
-use mathlib.Core.Path.{_≡_, refl, sym, ap, ap₂, _∙_, subst}
-use mathlib.Core.List.{List, [], _∷_, _++_, append-assoc}
-use lib.ListN.{length, drop, set, length-set, length-append, length-drop}
-use lib.Seq.{getD-set-same, getD-set-other, drop-cons, set-at, getD-drop, getD-append-add, sets, length-sets}
-use Rattle.frame.proofs.Buffers.{sets-sets}
+use mathlib.Core.Path.{_≡_, sym, ap, _∙_}
+use mathlib.Core.List.{List, map}
+use lib.ListN.{length}
+use lib.Seq.{sets}
+use borrow.Author.Tests.{eq-eqb}
 use Rattle.theory.specs.Clock.{gather}
-use Rattle.theory.proofs.clocks.Seen.{gather-hit, gather-miss, gather-length}
+use Rattle.theory.proofs.clocks.Seen.{gather-map}
 use Rattle.graph.specs.Columns.{at, bit}
-use Rattle.gates.proofs.Row.{bits-set}
-use Rattle.netlist.specs.Write.{joined}
-use Rattle.netlist.proofs.Rows.{rows-length}
-use Rattle.simulate.specs.Clock.{shifted}
-use Rattle.simulate.specs.inner.Signals.{among, Entered, RegistersShown, SignalsSet, shiftedAt, shiftedTo}
+use Rattle.gates.specs.inner.Gates.{AllBits}
+use Rattle.netlist.specs.declared.Netlist.{Netlist}
+use Rattle.netlist.specs.Net.{graphOf}
+use Rattle.netlist.proofs.Fits.{edge-fits}
+use Rattle.netlist.proofs.Run.{fit-rows, fit-wired}
+use Rattle.simulate.specs.declared.touched.Lists.{Lists}
+use Rattle.simulate.specs.Clock.{earlier}
+use Rattle.simulate.specs.inner.Lists.{Touched}
+use Rattle.simulate.specs.inner.Signals.{withInputs, withRegisters, withOutputs, shiftedAt, withShifts, Movable}
+use Rattle.simulate.specs.inner.Ran.{Steppable}
+use Rattle.simulate.proofs.Clock.{Fits}
+use Rattle.simulate.proofs.Listed.{mark-some, mark-has, listed-item, listed-place, listed-apart}
+use Rattle.simulate.proofs.Written.{written-length, written-other, written-at, written-bits, written-run}
 
--- ── What the registers show ─────────────────────────────────────────────────────────────────
+-- The signals that a clock begins with.
+module _ (l : Lists) (vectors : List ℕ) (at0 : ℕ) (words sig : List ℕ) where
+  abbrev pub entered : List ℕ
+  entered = withRegisters (l .reg) (l .regs) words (withInputs (l .input) (l .ins) vectors at0 sig)
 
-pub shown-start : (words sig : List ℕ) → RegistersShown words 0 sig sig
-shown-start words sig = record { shows = λ e h. absurd (let y : ⊥ = omega arith in y); stays = λ v h. refl; bits = λ b. b }
+  pub entered-length : length entered ≡ length sig
+  entered-length = written-length _ _ (l .regs) _ ∙ written-length _ _ (l .ins) sig
 
-pub shown-more : (words : List ℕ) (e : ℕ) (sig₀ sig : List ℕ) → 512 + e < length sig → RegistersShown words e sig₀ sig
-    → RegistersShown words (e + 1) sig₀ (set sig (512 + e) (at words e % 2))
-shown-more words e sig₀ sig h s = record {
-  shows = λ k l. go k l (ℕ-discrete k e);
-  stays = λ v l. getD-set-other sig (512 + e) v (at words e % 2) 0 (let z : ¬ (v ≡ 512 + e) = λ q. omega arith in z) ∙ s .stays v l;
-  bits = λ b. bits-set sig (512 + e) (at words e % 2) (omega arith) (s .bits b);
-}
-  where
-    go : (k : ℕ) → k < e + 1 → Dec (k ≡ e) → at (set sig (512 + e) (at words e % 2)) (512 + k) ≡ bit (at words k) 0
-    go k l (yes z) =
-        subst (λ n. at (set sig (512 + e) (at words e % 2)) (512 + n) ≡ bit (at words n) 0) (sym z)
-        (getD-set-same sig (512 + e) (at words e % 2) 0 h ∙ simp div-one)
-    go k l (no z) = getD-set-other sig (512 + e) (512 + k) (at words e % 2) 0 (λ q. z (omega arith)) ∙ s .shows k (omega arith)
+  pub entered-bits : AllBits vectors → AllBits sig → AllBits entered
+  entered-bits a b = written-bits _ _ (l .regs) _ (λ i h. omega arith) (written-bits _ _ (l .ins) sig (λ i h. a (at0 + i)) b)
 
--- ── The pins ────────────────────────────────────────────────────────────────────────────────
+module _ (net : Netlist) (l : Lists) (t : Touched net l) where
+  -- ── The pins and the registers ────────────────────────────────────────────────────────────
 
-module _ (kind : List ℕ) (k v : ℕ) where
-  pub among-hit : at kind v ≡ k → among kind k (v + 1) ≡ among kind k v + 1
-  among-hit q = rw add-one (ap length (gather-hit (at kind) (λ u. u) k v q) ∙ length-append (gather (at kind) (λ u. u) k v) (v ∷ []))
+  module _ (vectors : List ℕ) (at0 : ℕ) (sig : List ℕ) where
+    pub entered-at : net .nodes ≤ length sig → (v : ℕ) → v < net .nodes → at (net .kind) v ≡ 0
+        → at (withInputs (l .input) (l .ins) vectors at0 sig) v ≡ at vectors (at0 + earlier net 0 v)
+    unfolding earlier
+    entered-at n v h q =
+        let p = listed-place (t .inputs) v h q in
+        ap (at (withInputs (l .input) (l .ins) vectors at0 sig)) (sym (p .1))
+        ∙ written-at (at (l .input)) (λ i. at vectors (at0 + i)) (l .ins) sig (listed-apart (t .inputs)) (λ i k. omega (arith, listed-item (t .inputs) i k .0)) _ (p .0)
 
-  pub among-miss : ¬ (at kind v ≡ k) → among kind k (v + 1) ≡ among kind k v
-  among-miss q = rw add-one (ap length (gather-miss (at kind) (λ u. u) k v q))
+  module _ (words sig : List ℕ) where
+    pub shown-at : 512 + net .edges ≤ length sig → (e : ℕ) → e < net .edges → ¬ (at (net .count) e ≡ 0)
+        → at (withRegisters (l .reg) (l .regs) words sig) (512 + e) ≡ bit (at words e) 0
+    shown-at n e h q =
+        let p = listed-place (t .registers) e h (mark-some (net .count) e q) in
+        ap (λ k. at (withRegisters (l .reg) (l .regs) words sig) (512 + k)) (sym (p .1))
+        ∙ written-at (λ i. 512 + at (l .reg) i) (λ i. at words (at (l .reg) i) % 2) (l .regs) sig
+        (λ i j a b z. listed-apart (t .registers) i j a b (omega arith)) (λ i k. omega (arith, listed-item (t .registers) i k .0)) _ (p .0)
+        ∙ ap (λ k. at words k % 2) (p .1) ∙ simp div-one
 
--- By cases at the last node.
-pub among-less : (kind : List ℕ) (k v n : ℕ) → at kind v ≡ k → v < n → among kind k v + 1 ≤ among kind k n
-among-less kind k v zero q h = absurd (omega arith)
-among-less kind k v (suc n) q h = go (ℕ-discrete v n) (ℕ-discrete (at kind n) k) (among-less kind k v n q)
-  where
-    go : Dec (v ≡ n) → Dec (at kind n ≡ k) → (v < n → among kind k v + 1 ≤ among kind k n) → among kind k v + 1 ≤ among kind k (suc n)
-    go (yes e) d less = omega (arith, rw add-one at (among-hit kind k v q), ap (λ i. among kind k (suc i)) e)
-    go (no e) (yes p) less = omega (arith, rw add-one at (among-hit kind k n p), less (omega arith))
-    go (no e) (no p) less = omega (arith, rw add-one at (among-miss kind k n p), less (omega arith))
+    pub shown-stays : (v : ℕ) → v < 512 → at (withRegisters (l .reg) (l .regs) words sig) v ≡ at sig v
+    shown-stays v h = written-other _ _ (l .regs) sig v (λ i k q. omega arith)
 
--- The inputs among the nodes below v have their bytes, and the next byte is at at1.
-pub record Entering (kind vectors : List ℕ) (at0 : ℕ) (sig₀ : List ℕ) (v at1 : ℕ) (sig : List ℕ) : Type 0 where
-  pub place : at1 ≡ at0 + among kind 0 v
-  pub size : length sig ≡ length sig₀
-  pub so-far : Entered kind v vectors at0 sig₀ sig
+  pub outputs-put : (sig : List ℕ) (at0 : ℕ) (out : List ℕ)
+      → withOutputs (l .output) (l .outs) sig at0 out ≡ sets out at0 (gather (at (net .kind)) (at sig) 1 (net .nodes))
+  outputs-put sig at0 out =
+      written-run (at sig) (l .output) at0 (l .outs) out (t .outputs .room)
+      ∙ ap (sets out at0) (ap (map (at sig)) (t .outputs .front) ∙ gather-map (at sig) (at (net .kind)) (λ u. u) 1 (net .nodes))
 
-module _ (kind vectors : List ℕ) (at0 : ℕ) (sig₀ : List ℕ) where
-  pub entering-start : Entering kind vectors at0 sig₀ 0 at0 sig₀
-  unfolding gather
-  entering-start = record {
-    place = omega arith;
-    size = refl;
-    so-far = record { inputs = λ v h. absurd (let y : ⊥ = omega arith in y); bits = λ b s. s };
-  }
+  -- ── The words ─────────────────────────────────────────────────────────────────────────────
 
-  module _ (v at1 : ℕ) (sig : List ℕ) (s : Entering kind vectors at0 sig₀ v at1 sig) where
-    pub entering-hit : v < length sig → at kind v ≡ 0 → (at2 : ℕ) (sig′ : List ℕ) → sig′ ≡ set sig v (at vectors at1) → at2 ≡ at1 + 1
-        → Entering kind vectors at0 sig₀ (v + 1) at2 sig′
-    entering-hit l q at2 sig′ e f = rw e record {
-      place = omega (arith, s .place, among-hit kind 0 v q);
-      size = length-set sig v (at vectors at1) ∙ s .size;
-      so-far = record {
-        inputs = λ u h z. go u h z (ℕ-discrete u v);
-        bits = λ b t. bits-set sig v (at vectors at1) (b at1) (s .so-far .bits b t);
-      };
-    }
+  module _ (sig words : List ℕ) where
+    abbrev after : List ℕ
+    after = withShifts (l .reg) (l .regs) (net .from) (net .count) sig words
+
+    pub shifts-length : length after ≡ length words
+    shifts-length = written-length _ _ (l .regs) words
+
+    -- An edge without a register is not listed, and keeps its word.
+    pub shifts-in : net .edges ≤ length words → (e : ℕ) → e < net .edges → at after e ≡ shiftedAt (net .from) (net .count) sig words e
+    shifts-in n e h = go (ℕ-discrete (at (net .count) e) 0)
       where
-        go : (u : ℕ) → u < v + 1 → at kind u ≡ 0 → Dec (u ≡ v) → at (set sig v (at vectors at1)) u ≡ at vectors (at0 + among kind 0 u)
-        go u h z (yes p) =
-            subst (λ n. at (set sig v (at vectors at1)) n ≡ at vectors (at0 + among kind 0 n)) (sym p)
-            (getD-set-same sig v (at vectors at1) 0 l ∙ ap (at vectors) (s .place))
-        go u h z (no p) = getD-set-other sig v u (at vectors at1) 0 p ∙ s .so-far .inputs u (omega arith) z
+        go : Dec (at (net .count) e ≡ 0) → at after e ≡ shiftedAt (net .from) (net .count) sig words e
+        go (yes z) =
+            written-other _ _ (l .regs) words e (λ i k q. omega (arith, mark-has (net .count) (at (l .reg) i) (listed-item (t .registers) i k .1), ap (at (net .count)) q))
+            ∙ rw (eq-eqb (at (net .count) e) 0 z)
+        go (no z) =
+            let p = listed-place (t .registers) e h (mark-some (net .count) e z) in
+            ap (at after) (sym (p .1))
+            ∙ written-at (at (l .reg)) (λ i. shiftedAt (net .from) (net .count) sig words (at (l .reg) i)) (l .regs) words
+            (listed-apart (t .registers)) (λ i k. omega (arith, listed-item (t .registers) i k .0)) _ (p .0)
+            ∙ ap (shiftedAt (net .from) (net .count) sig words) (p .1)
 
-    pub entering-miss : ¬ (at kind v ≡ 0) → (at2 : ℕ) (sig′ : List ℕ) → sig′ ≡ sig → at2 ≡ at1 → Entering kind vectors at0 sig₀ (v + 1) at2 sig′
-    entering-miss q at2 sig′ e f = rw e record {
-      place = omega (arith, s .place, among-miss kind 0 v q);
-      size = s .size;
-      so-far = record { inputs = λ u h z. go u h z (ℕ-discrete u v); bits = s .so-far .bits };
-    }
-      where
-        go : (u : ℕ) → u < v + 1 → at kind u ≡ 0 → Dec (u ≡ v) → at sig u ≡ at vectors (at0 + among kind 0 u)
-        go u h z (yes p) = absurd (q (ap (at kind) (sym p) ∙ z))
-        go u h z (no p) = s .so-far .inputs u (omega arith) z
+    pub shifts-out : (e : ℕ) → net .edges ≤ e → at after e ≡ at words e
+    shifts-out e h = written-other _ _ (l .regs) words e (λ i k q. omega (arith, listed-item (t .registers) i k .0))
 
--- The outputs among the nodes below v are written, and the next byte goes to at1.
-pub record Putting (kind sig old : List ℕ) (at0 v at1 : ℕ) (out : List ℕ) : Type 0 where
-  pub place : at1 ≡ at0 + among kind 1 v
-  pub so-far : out ≡ sets old at0 (gather (at kind) (at sig) 1 v)
-
-module _ (kind sig old : List ℕ) (at0 : ℕ) where
-  pub putting-start : Putting kind sig old at0 0 at0 old
-  unfolding gather
-  putting-start = record { place = omega arith; so-far = refl }
-
-  module _ (v at1 : ℕ) (out : List ℕ) (s : Putting kind sig old at0 v at1 out) where
-    pub putting-length : length out ≡ length old
-    putting-length = ap length (s .so-far) ∙ length-sets old at0 (gather (at kind) (at sig) 1 v)
-
-    pub putting-hit : at kind v ≡ 1 → (at2 : ℕ) (out′ : List ℕ) → out′ ≡ set out at1 (at sig v) → at2 ≡ at1 + 1 → Putting kind sig old at0 (v + 1) at2 out′
-    putting-hit q at2 out′ e f = record { place = omega (arith, s .place, among-hit kind 1 v q); so-far = e ∙ ap (λ l. set l at1 (at sig v)) (s .so-far) ∙ more }
-      where
-        done : List ℕ
-        done = gather (at kind) (at sig) 1 v
-
-        more : set (sets old at0 done) at1 (at sig v) ≡ sets old at0 (gather (at kind) (at sig) 1 (v + 1))
-        more =
-            sets-sets done (at sig v ∷ []) old at0 at1 (s .place ∙ ap (λ n. at0 + n) (gather-length (at kind) (λ u. u) (at sig) 1 v))
-            ∙ rw add-one (ap (sets old at0) (sym (gather-hit (at kind) (at sig) 1 v q)))
-
-    pub putting-miss : ¬ (at kind v ≡ 1) → (at2 : ℕ) (out′ : List ℕ) → out′ ≡ out → at2 ≡ at1 → Putting kind sig old at0 (v + 1) at2 out′
-    putting-miss q at2 out′ e f = record {
-      place = omega (arith, s .place, among-miss kind 1 v q);
-      so-far = e ∙ s .so-far ∙ rw add-one (ap (sets old at0) (sym (gather-miss (at kind) (at sig) 1 v q)));
-    }
-
--- The inputs' places are not the registers'.
-pub begun : (kind : List ℕ) (nodes : ℕ) (words : List ℕ) (edges : ℕ) (vectors : List ℕ) (at0 : ℕ) {sig mid sig′ : List ℕ} → nodes ≤ 512
-    → Entered kind nodes vectors at0 sig mid → RegistersShown words edges mid sig′ → SignalsSet kind nodes words edges vectors at0 sig sig′
-begun kind nodes words edges vectors at0 few e s = record {
-  enters = record { inputs = λ v h q. s .stays v (omega arith) ∙ e .inputs v h q; bits = λ b t. s .bits (e .bits b t) };
-  shows = s .shows;
-}
-
--- ── The words ───────────────────────────────────────────────────────────────────────────────
-
-module _ (from count sig words : List ℕ) where
-  rows : (n : ℕ) → length (joined (shiftedAt from count sig words) n) ≡ n
-  rows n = rows-length (λ e. shifted (at count e) (at words e) (at sig (at from e))) n
-
-  pub moved-start : shiftedTo from count sig words 0 ≡ words
-  unfolding shiftedTo joined
-  moved-start = refl
-
-  pub moved-length : (n : ℕ) → n ≤ length words → length (shiftedTo from count sig words n) ≡ length words
-  unfolding shiftedTo
-  moved-length n h = length-append (joined (shiftedAt from count sig words) n) (drop n words) ∙ omega (arith, rows n, length-drop n words)
-
-  -- The words from the n-th on are as they were.
-  pub moved-at : (n : ℕ) (now : List ℕ) → now ≡ shiftedTo from count sig words n → at now n ≡ at words n
-  unfolding shiftedTo
-  moved-at n now e =
-      let xs = joined (shiftedAt from count sig words) n in
-      ap₂ at e (let z : n ≡ length xs + 0 = omega (arith, rows n) in z)
-      ∙ getD-append-add xs (drop n words) 0 0 ∙ getD-drop n words 0 0 ∙ ap (at words) (let z : n + 0 ≡ n = omega arith in z)
-
-  pub moved-more : (n x : ℕ) (now : List ℕ) → n < length words → now ≡ shiftedTo from count sig words n
-      → x ≡ shifted (at count n) (at now n) (at sig (at from n)) → set now n x ≡ shiftedTo from count sig words (n + 1)
-  unfolding shiftedTo joined
-  moved-more n x now h e q =
-      let xs = joined (shiftedAt from count sig words) n in
-      let y = shifted (at count n) (at words n) (at sig (at from n)) in
-      ap₂ (λ l z. set l n z) (e ∙ ap (λ l. xs ++ l) (drop-cons words n 0 h)) (q ∙ ap (λ z. shifted (at count n) z (at sig (at from n))) (moved-at n now e))
-      ∙ set-at xs (at words n) (drop (suc n) words) y n (rows n)
-      ∙ rw add-one (sym (append-assoc xs (y ∷ []) (drop (suc n) words)))
+  pub net-movable : Steppable net → (length (net .from) ≡ 1024) × (length (net .count) ≡ 1024) → (words : List ℕ) (size : ℕ) → length words ≡ 1024 → 512 ≤ size
+      → Fits net words → Movable (l .reg) (l .regs) (net .from) (net .count) words size
+  net-movable ok rows words size n m f =
+      let h = fit-rows net (ok .fit) in record {
+        rows = t .registers .room;
+        apart = listed-apart (t .registers);
+        each = λ i k.
+            let e = at (l .reg) i in
+            let p = listed-item (t .registers) i k in record {
+              in-from = omega (arith, rows .0, h .1, p .0);
+              in-count = omega (arith, rows .1, h .1, p .0);
+              in-words = omega (arith, h .1, p .0);
+              source = omega (arith, fit-wired net (ok .fit) .src-in e (p .0), h .0);
+              some = mark-has (net .count) e (p .1);
+              few = edge-fits (net .nodes) (graphOf net .kind) _ _ _ _ (ok .fit .edge e (p .0)) .2;
+              fits = f e (p .0);
+            };
+      }

@@ -10,11 +10,11 @@ use mathlib.Core.Bool.{true}
 use mathlib.Core.List.{List, _++_}
 use Prim.Native.Nat.{ℕ, suc, _+_, _*_, _<_, _≤_}
 use lib.ListN.{length, getD, take, drop}
-use Rattle.theory.specs.Clock.{gather, Trace}
-use Rattle.theory.specs.Gate.{gate}
+use Rattle.theory.specs.Clock.{gather}
 use Rattle.netlist.specs.declared.Netlist.{Netlist}
 use Rattle.netlist.specs.Answer.{Said, value}
-use Rattle.netlist.specs.Net.{graphOf, regsOf}
+use Rattle.netlist.specs.Net.{graphOf}
+use Rattle.netlist.specs.Circuit.{TraceIn}
 use Rattle.netlist.specs.Read.{Reads}
 use Rattle.netlist.specs.Write.{joined}
 use Rattle.netlist.specs.Theorems.{Same}
@@ -71,11 +71,11 @@ StepsGoOn = (t : List ℕ) (net : Netlist) → Reads t (value 0) net
 -- inputs, some values do this at every clock, and one only at each node.
 abbrev pub TraceExists : Type 0
 TraceExists = (t : List ℕ) (net : Netlist) (ins : ℕ → ℕ → ℕ) → Reads t (value 0) net
-    → (x : ℕ → ℕ → ℕ) × Trace gate (graphOf net) (regsOf net) ins x
+    → (x : ℕ → ℕ → ℕ) × TraceIn net ins x
 
 abbrev pub TraceUnique : Type 0
 TraceUnique = (t : List ℕ) (net : Netlist) (ins x y : ℕ → ℕ → ℕ) → Reads t (value 0) net
-    → Trace gate (graphOf net) (regsOf net) ins x → Trace gate (graphOf net) (regsOf net) ins y
+    → TraceIn net ins x → TraceIn net ins y
     → (v k : ℕ) → v < net .nodes → x v k ≡ y v k
 
 -- The byte of the input v at clock k.
@@ -86,13 +86,13 @@ byteAt net vectors v k = getD vectors (k * inputs net + earlier net 0 v) 0
 abbrev pub RunIsTrace : Type 0
 RunIsTrace = (t : List ℕ) (net : Netlist) (n : ℕ) (vectors : List ℕ) (x : ℕ → ℕ → ℕ)
     → Reads t (value 0) net → onlyBits vectors ≡ true
-    → Trace gate (graphOf net) (regsOf net) (byteAt net vectors) x
+    → TraceIn net (byteAt net vectors) x
     → clocksFrom net n (net .start) vectors ≡ joined (λ k. gather (graphOf net .kind) (λ v. x v k) 1 (net .nodes)) n
 
 -- Two netlists with the same nodes whose traces agree at the outputs, on all inputs: "The two runs give the same answer, a refusal included, and leave equal buffers."
 abbrev pub RunsAlike : Type 0
 RunsAlike = (t t′ : List ℕ) (net net′ : Netlist) → Reads t (value 0) net → Reads t′ (value 0) net′
     → net .nodes ≡ net′ .nodes → ((v : ℕ) → v < net .nodes → getD (net .kind) v 0 ≡ getD (net′ .kind) v 0)
-    → ((ins x y : ℕ → ℕ → ℕ) → Trace gate (graphOf net) (regsOf net) ins x → Trace gate (graphOf net′) (regsOf net′) ins y
+    → ((ins x y : ℕ → ℕ → ℕ) → TraceIn net ins x → TraceIn net′ ins y
     → (v k : ℕ) → v < net .nodes → getD (net .kind) v 0 ≡ 1 → x v k ≡ y v k)
     → (vectors old : List ℕ) (s : Said) (new : List ℕ) → Runs t vectors old s new → Runs t′ vectors old s new

@@ -1,100 +1,98 @@
-// One clock, over columns: nothing is copied. sig holds each node's signal, and from 512 on what each edge shows from its register; words each
-// edge's word. A clock is `enter`, gates' `evaluate`, `put_outputs`, `shift`.
-// Required: a plan of a netlist that passed the rules, and buffers of its sizes. `clocks_of` has them.
+// One clock, over columns: nothing is copied. sig holds each node's signal, and from 512 on what each edge with a register shows from it; words each
+// edge's word. A clock is `enter`, gates' `evaluate`, `put_outputs`, `shift`. Each goes over a list, and touches what stands in it alone.
+// Required: a plan and the lists of a netlist that passed the rules, and buffers of its sizes. `clocks_of` has them.
 use graph::NODES;
 ghost use mathlib.Core.Path.{_≡_};
 ghost use Prim.Native.Nat.{_+_, _^_, _<_, _≤_};
 ghost use lib.ListN.{length};
-ghost use lib.Seq.{sets};
-ghost use Rattle.theory.specs.Clock.{gather as gathered};
-ghost use Rattle.graph.specs.Columns.{at};
 ghost use Rattle.simulate.specs.Clock.{shifted};
 ghost use Rattle.gates.specs.inner.Gates.{AllBits};
-ghost use Rattle.simulate.specs.inner.Signals.{among, Entered, RegistersShown, SignalsSet, shiftedTo, Movable};
+ghost use Rattle.simulate.specs.inner.Signals.{Within, Movable, withInputs, withRegisters, withOutputs, withShifts};
 
-// What each edge with a register shows: bit 0 of its word.
-fn show_registers(words: &[u32], edges: usize, sig: &mut [u8])
-    requires { ⌜ (edges ≤ length (now words)) × (512 + edges ≤ length (now sig)) ⌝ }
-    ensures { λ _. ⌜ RegistersShown (now (words .entry)) edges (now (sig .entry)) (now (sig .exit)) ⌝ }
+// The vector that begins at `at0`, one byte for each of the first n nodes of the list.
+fn put_inputs(inputs: &[u16], n: usize, vectors: &[u8], at0: usize, sig: &mut [u8])
+    requires { ⌜ Within (now inputs) n (length (now sig)) × (at0 + n ≤ length (now vectors)) ⌝ }
+    ensures { λ _. ⌜ now (sig .exit) ≡ withInputs (now (inputs .entry)) n (now (vectors .entry)) at0 (now (sig .entry)) ⌝ }
 {
-    let mut e = 0;
-    while e < edges {
+    let mut i = 0;
+    while i < n {
+        let v = inputs[i] as usize;
+        sig[v] = vectors[at0 + i];
+        i += 1;
+    }
+}
+
+// What each of the first n edges of the list shows from its register: bit 0 of its word.
+fn show_registers(registers: &[u16], n: usize, words: &[u32], sig: &mut [u8])
+    requires { ⌜ Within (now registers) n (length (now words)) × (512 + length (now words) ≤ length (now sig)) ⌝ }
+    ensures { λ _. ⌜ now (sig .exit) ≡ withRegisters (now (registers .entry)) n (now (words .entry)) (now (sig .entry)) ⌝ }
+{
+    let mut i = 0;
+    while i < n {
+        let e = registers[i] as usize;
         sig[NODES + e] = (words[e] % 2) as u8;
-        e += 1;
+        i += 1;
     }
 }
 
-// The vector that begins at `at0`, one byte per input in node order.
-fn put_inputs(kind: &[u8], nodes: usize, vectors: &[u8], at0: usize, sig: &mut [u8])
-    requires { ⌜ (nodes ≤ length (now kind)) × (nodes ≤ length (now sig)) × (at0 + among (now kind) 0 nodes ≤ length (now vectors)) ⌝ }
-    ensures { λ _. ⌜ Entered (now (kind .entry)) nodes (now (vectors .entry)) at0 (now (sig .entry)) (now (sig .exit)) ⌝ }
-{
-    let mut at = at0;
-    let mut v = 0;
-    while v < nodes {
-        if kind[v] == 0 {
-            sig[v] = vectors[at];
-            at += 1;
-        }
-        v += 1;
-    }
-}
-
-// A clock begins: its vector, which begins at `at0`, and the registers are put among the signals.
-pub fn enter(
-    kind: &[u8],
-    nodes: usize,
-    words: &[u32],
-    edges: usize,
+// A clock begins: the bytes of the first n inputs listed, from `at0` on, and what the first m registers listed show are put among the signals.
+pub fn enter<'a>(
+    inputs: &'a [u16],
+    n: usize,
     vectors: &[u8],
     at0: usize,
+    registers: &'a [u16],
+    m: usize,
+    words: &[u32],
     sig: &mut [u8],
 )
-    requires { ⌜ (nodes ≤ 512) × (nodes ≤ length (now kind)) × (at0 + among (now kind) 0 nodes ≤ length (now vectors)) ⌝ }
-    requires { ⌜ (edges ≤ length (now words)) × (512 + edges ≤ length (now sig)) ⌝ }
-    ensures { λ _. ⌜ SignalsSet (now (kind .entry)) nodes (now (words .entry)) edges (now (vectors .entry)) at0 (now (sig .entry)) (now (sig .exit)) ⌝ }
+    requires { ⌜ Within (now inputs) n (length (now sig)) × (at0 + n ≤ length (now vectors)) ⌝ }
+    requires { ⌜ Within (now registers) m (length (now words)) × (512 + length (now words) ≤ length (now sig)) ⌝ }
+    ensures { λ _. ⌜ now (sig .exit) ≡ withRegisters (now (registers .entry)) m (now (words .entry)) (withInputs (now (inputs .entry)) n (now (vectors .entry)) at0 (now (sig .entry))) ⌝ }
 {
-    put_inputs(kind, nodes, vectors, at0, sig);
-    show_registers(words, edges, sig);
+    put_inputs(inputs, n, vectors, at0, sig);
+    show_registers(registers, m, words, sig);
 }
 
-// "the word moves down a bit and u's value becomes bit w − 1", where w is above 0.
+// "the word moves down a bit and u's value becomes bit w − 1".
 fn shift_in(word: u32, w: u32, x: u32) -> u32
-    requires { ⌜ (w ≤ 32) × (word < 2 ^ w) × (x ≤ 1) ⌝ }
+    requires { ⌜ (0 < w) × (w ≤ 32) × (word < 2 ^ w) × (x ≤ 1) ⌝ }
     ensures { λ r. ⌜ r ≡ shifted w word x ⌝ }
 {
-    if w == 0 {
-        return word;
-    }
     let top = w - 1;
     (word >> 1) | (x << top)
 }
 
-// The words after a clock with these signals.
-pub fn shift<'a>(from: &'a [u16], count: &'a [u8], edges: usize, sig: &[u8], words: &mut [u32])
-    requires { ⌜ Movable (now from) (now count) edges (now words) (length (now sig)) × AllBits (now sig) ⌝ }
-    ensures { λ _. ⌜ now (words .exit) ≡ shiftedTo (now (from .entry)) (now (count .entry)) (now (sig .entry)) (now (words .entry)) edges ⌝ }
+// The words after a clock with these signals, of the first n edges of the list: those with a register. The others stay.
+pub fn shift<'a>(
+    registers: &[u16],
+    n: usize,
+    from: &'a [u16],
+    count: &'a [u8],
+    sig: &[u8],
+    words: &mut [u32],
+)
+    requires { ⌜ Movable (now registers) n (now from) (now count) (now words) (length (now sig)) × AllBits (now sig) ⌝ }
+    ensures { λ _. ⌜ now (words .exit) ≡ withShifts (now (registers .entry)) n (now (from .entry)) (now (count .entry)) (now (sig .entry)) (now (words .entry)) ⌝ }
 {
-    let mut e = 0;
-    while e < edges {
+    let mut i = 0;
+    while i < n {
+        let e = registers[i] as usize;
         let u = from[e] as usize;
         words[e] = shift_in(words[e], count[e] as u32, sig[u] as u32);
-        e += 1;
+        i += 1;
     }
 }
 
-// The outputs' signals, one byte each in node order, at `at0`.
-pub fn put_outputs(kind: &[u8], nodes: usize, sig: &[u8], out: &mut [u8], at0: usize)
-    requires { ⌜ (nodes ≤ length (now kind)) × (nodes ≤ length (now sig)) × (at0 + among (now kind) 1 nodes ≤ length (now out)) ⌝ }
-    ensures { λ _. ⌜ now (out .exit) ≡ sets (now (out .entry)) at0 (gathered (at (now (kind .entry))) (at (now (sig .entry))) 1 nodes) ⌝ }
+// The signals of the first n nodes of the list, one byte each, at `at0`.
+pub fn put_outputs(outputs: &[u16], n: usize, sig: &[u8], out: &mut [u8], at0: usize)
+    requires { ⌜ Within (now outputs) n (length (now sig)) × (at0 + n ≤ length (now out)) ⌝ }
+    ensures { λ _. ⌜ now (out .exit) ≡ withOutputs (now (outputs .entry)) n (now (sig .entry)) at0 (now (out .entry)) ⌝ }
 {
-    let mut at = at0;
-    let mut v = 0;
-    while v < nodes {
-        if kind[v] == 1 {
-            out[at] = sig[v];
-            at += 1;
-        }
-        v += 1;
+    let mut i = 0;
+    while i < n {
+        let v = outputs[i] as usize;
+        out[at0 + i] = sig[v];
+        i += 1;
     }
 }

@@ -4,6 +4,7 @@ mod clocks;
 mod plan;
 mod running;
 mod stepping;
+mod touched;
 
 use graph::EDGES;
 use netlist::Answer;

@@ -4,7 +4,7 @@ use gates::index_table;
 use gates::put_truths;
 use graph::EDGES;
 use graph::NODES;
-use graph::by_rank;
+use graph::evaluation_order;
 use graph::sort_by;
 use netlist::Netlist;
 ghost use mathlib.Core.Path.{_≡_};
@@ -12,12 +12,11 @@ ghost use mathlib.Core.Bool.{cond};
 ghost use Prim.Native.Nat.{ℕ, _+_, _<_, _≤_};
 ghost use lib.Dec.{eqb};
 ghost use lib.ListN.{length};
-ghost use Rattle.theory.specs.Walk.{Loop};
 ghost use Rattle.graph.specs.Columns.{at};
 ghost use Rattle.graph.specs.inner.Lists.{Filtered};
-ghost use Rattle.netlist.specs.Net.{graphOf, regsOf};
-ghost use Rattle.netlist.specs.Read.{FanInFits, All};
 ghost use Rattle.netlist.specs.Theorems.{Fit};
+ghost use Rattle.netlist.specs.Circuit.{LoopIn};
+ghost use Rattle.netlist.specs.Read.{FanInsFit};
 ghost use Rattle.simulate.specs.inner.Plan.{signal, NoInput, Planned};
 
 // What the edges show from their registers comes after the values of the nodes.
@@ -81,13 +80,13 @@ fn signals_of(net: Netlist, ins: &[u16]) -> [u16; EDGES]
 // The plan of a netlist that keeps the rules of its lines, and the rules 5 and 6.
 pub fn plan_of(net: Netlist) -> Plan
     requires { ⌜ Fit net ⌝ }
-    requires { ⌜ All (FanInFits (graphOf net)) (net .nodes) ⌝ }
-    requires { ⌜ ¬ Loop (graphOf net) (regsOf net .count) ⌝ }
+    requires { ⌜ FanInsFit net ⌝ }
+    requires { ⌜ ¬ LoopIn net ⌝ }
     ensures { λ r. ⌜ Planned net r ⌝ }
 {
     let nodes = net.nodes as usize;
     let edges = net.edges as usize;
-    let order = by_rank(&net.from, &net.to, &net.count, nodes, edges);
+    let order = evaluation_order(&net.from, &net.to, &net.count, nodes, edges);
     let mut node = [0u16; NODES];
     let gates = gates_of(&order, &net.kind, nodes, &mut node);
     let mut first = [0u16; NODES + 1];

@@ -10,6 +10,7 @@ use crate::clocks::enter;
 use crate::clocks::put_outputs;
 use crate::clocks::shift;
 use crate::plan::plan_of;
+use crate::touched::lists_of;
 use gates::evaluate;
 use netlist::Answer;
 use netlist::Netlist;
@@ -27,10 +28,10 @@ pub fn clocks_of(
     requires { ⌜ Runnable net clocks start (now vectors) (now out) ⌝ }
     ensures { λ r. ⌜ Ran net clocks start (now (vectors .entry)) (now (out .entry)) r (now (out .exit)) ⌝ }
 {
-    let nodes = net.nodes as usize;
-    let edges = net.edges as usize;
-    let inputs = count_kind(net, 0);
-    let outputs = count_kind(net, 1);
+    let l = lists_of(net);
+    let ins = l.ins;
+    let outs = l.outs;
+    let regs = l.regs;
     let p = plan_of(net);
     let gates = p.gates;
     let node = p.node;
@@ -40,16 +41,16 @@ pub fn clocks_of(
     let index = p.index;
     let mut words = start;
     let mut sig = [0u8; NODES + EDGES];
-    let mut taken = 0;
+    let mut used = 0;
     let mut given = 0;
     let mut t = 0;
     while t < clocks {
-        enter(&net.kind, nodes, &words, edges, vectors, taken, &mut sig);
+        enter(&l.input, ins, vectors, used, &l.reg, regs, &words, &mut sig);
         evaluate(&node, &truth, &index, &first, &sees, gates, 0, &mut sig);
-        put_outputs(&net.kind, nodes, &sig, out, given);
-        shift(&net.from, &net.count, edges, &sig, &mut words);
-        taken += inputs;
-        given += outputs;
+        put_outputs(&l.output, outs, &sig, out, given);
+        shift(&l.reg, regs, &net.from, &net.count, &sig, &mut words);
+        used += ins;
+        given += outs;
         t += 1;
     }
     words

@@ -10,12 +10,12 @@ use mathlib.Core.List.{List}
 use lib.ListN.{length}
 use Rattle.theory.specs.Gate.{gate}
 use Rattle.theory.specs.Move.{move}
-use Rattle.theory.specs.Retimer.{retimed}
 use Rattle.theory.proofs.numbers.Sums.{sum-same}
 use Rattle.graph.specs.Columns.{at}
 use Rattle.gates.specs.inner.Gates.{AllBits}
 use Rattle.netlist.specs.declared.Netlist.{Netlist}
 use Rattle.netlist.specs.Net.{graphOf, regsOf}
+use Rattle.netlist.specs.inner.Words.{retimedAt}
 use Rattle.netlist.proofs.Lowest.{count-low}
 use Rattle.lags.proofs.Laws.{lag-label, lag-up}
 use Rattle.moves.specs.inner.Labels.{lagsOf, chosenAt}
@@ -86,6 +86,6 @@ pub moved-is : (net : Netlist) (lab counts : List ℕ) (c : ℕ) → Moving net 
     → Filled (at counts) none (net .edges) bytes → Filled (startsAt net lab counts c) none (net .edges) words → withColumns net bytes words ≡ movedNet net (lagsOf lab) c
 unfolding movedNet move
 moved-is net lab counts c m bytes words p q a b =
-    sym (with-is net (retimed gate (graphOf net) (regsOf net) (lagsOf lab) c) bytes words (low-edges net lab (m .labelled)) p q
+    sym (with-is net (retimedAt net (lagsOf lab) c) bytes words (low-edges net lab (m .labelled)) p q
     (record { rows = λ e h. a .rows e h ∙ m .counted e h; past = a .past })
     (record { rows = λ e h. b .rows e h ∙ ap (wordOf (startAt net lab c e)) (m .counted e h); past = b .past }))

@@ -1,7 +1,7 @@
 -- The nodes that are evaluated in a clock.
 --   Listed              all that are asked for in clock s, each after the sources that it sees in the same clock
 --   listed-start        all nodes in evaluation order
---   listed-next         for the next clock
+--   listed-later        k clocks later
 --   Refreshed, refreshed    looked through
 use Prim.Native.Nat.{ℕ, _+_, _*_, _/_, _%_, _<_, _≤_}
 use native.Mathlib.Omega.{arith}
@@ -28,9 +28,9 @@ listed-start net lab list o = record {
   sources-first = λ i e h l q z a. o .sources-first i e h l q z;
 }
 
--- Whoever is asked for in the next clock is in this one.
-pub listed-next : (net : Netlist) (lab : List ℕ) (s : ℕ) (list : List ℕ) (n : ℕ) → Listed net lab s list n → Listed net lab (s + 1) list n
-listed-next net lab s list n w = record {
+-- Whoever is asked for then is asked for now.
+pub listed-later : (net : Netlist) (lab : List ℕ) (s : ℕ) (list : List ℕ) (n k : ℕ) → Listed net lab s list n → Listed net lab (s + k) list n
+listed-later net lab s list n k w = record {
   few = w .few;
   nodes-only = w .nodes-only;
   every = λ v h a. w .every v h (omega arith);

@@ -6,7 +6,7 @@
 --   puts-more, puts-end    the slots put at the places of one node, a place at a time
 --   node-more           the slots put node by node
 --   slotable-wider      with more room
-use Prim.Native.Nat.{ℕ, suc, _+_, _-_, _%_, _<_, _≤_}
+use Prim.Native.Nat.{ℕ, suc, _+_, _-_, _<_, _≤_}
 use native.Mathlib.Omega.{arith}
 use native.Mathlib.Numerals.{add-one}
 use native.Mathlib.Decide.{ℕ-discrete, decLt, decLe}
@@ -19,7 +19,7 @@ use borrow.Author.Tests.{lt-ltb, le-ltb}
 use Rattle.graph.specs.Columns.{at, bit}
 use Rattle.netlist.specs.Net.{zeros}
 use Rattle.netlist.proofs.Rows.{zeros-at}
-use Rattle.starts.specs.inner.Ring.{row, NothingYet, slotOf, edgeSlot, Puts, SlotsOf, EdgeRows, SlotableOf}
+use Rattle.starts.specs.inner.Ring.{row, NothingYet, slotOf, edgeSlot, further, Puts, SlotsOf, EdgeRows, SlotableOf}
 
 -- Told of any length, so that no list of that length is written out.
 pub empty-is : (n : ℕ) → n ≡ 32770 → NothingYet (set (replicate n 0) 32769 1)
@@ -47,17 +47,17 @@ module _ (u w word s : ℕ) where
       go (yes h) = omega (arith, slot-early h)
       go (no h) = omega (arith, slot-late (omega arith))
 
-pub slot-turn : (u w word s : ℕ) → w ≤ s → u < 512 → (slotOf u w word s % 32768 + 512) % 32768 ≡ slotOf u w word (s + 1)
+pub slot-turn : (u w word s : ℕ) → w ≤ s → u < 512 → further (slotOf u w word s) ≡ slotOf u w word (s + 1)
 slot-turn u w word s h l =
-    ap (λ c. (c % 32768 + 512) % 32768) (slot-late u w word s h) ∙ further (s - w) ∙ ap (λ t. row t + u) (let z : s - w + 1 ≡ s + 1 - w = omega arith in z)
+    ap further (slot-late u w word s h) ∙ row-turn (s - w) ∙ ap (λ t. row t + u) (let z : s - w + 1 ≡ s + 1 - w = omega arith in z)
     ∙ sym (slot-late u w word (s + 1) (omega arith))
   where
-    further : (t : ℕ) → ((row t + u) % 32768 + 512) % 32768 ≡ row (t + 1) + u
-    further t = omega arith
+    row-turn : (t : ℕ) → further (row t + u) ≡ row (t + 1) + u
+    row-turn t = omega arith
 
 -- Past the start values, a row further is the next clock.
 pub edge-turn : (from count start : List ℕ) (e t s : ℕ) → EdgeRows from count start e → 32 ≤ t → t + 1 ≡ s
-    → (edgeSlot from count start t e % 32768 + 512) % 32768 ≡ edgeSlot from count start s e
+    → further (edgeSlot from count start t e) ≡ edgeSlot from count start s e
 edge-turn from count start e t s r h q =
     slot-turn (at from e) (at count e) (at start e) t (omega (arith, r .width)) (r .source) ∙ ap (λ x. edgeSlot from count start x e) q
 

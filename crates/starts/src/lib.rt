@@ -1,4 +1,5 @@
 // The start values of the moved netlist. Internal: asks of the caller the labels of the least retiming (`Moving`).
+mod ahead;
 mod ring;
 mod words;
 

@@ -1,15 +1,20 @@
-// The original on zeros, clock by clock, in a ring of 64 rows: node v's value at clock t stands at t % 64 · 512 + v. Behind the rows, at 32,768, stand 0 and 1.
+// The original on zeros, clock by clock or 32 clocks of a node in a row, in a ring of 64 rows: node v's value at clock t stands at t % 64 · 512 + v. Behind the
+// rows, at 32,768, stand 0 and 1.
 // So no register is moved: an edge with w registers shows what its source had w clocks before, or a start value.
 // Nodes whose lag is below 0 are followed, each at least up to the clock before minus its lag and at most 31 clocks further: the last 32 values before that
 // clock, which are all that a new start value or a node that is followed longer can ask for, are then still in the ring.
 // Private to the crate: `starts_of` comes here with the labels of a legal retiming of a netlist that passed the rules.
 use crate::BIAS;
-use gates::evaluate;
+use crate::ahead::CLOCKS;
+use crate::ahead::SPELL;
+use crate::ahead::advance;
+use crate::ahead::stride;
+use crate::ahead::take;
 use gates::index_table;
 use gates::put_truths;
 use graph::EDGES;
 use graph::NODES;
-use graph::by_rank;
+use graph::evaluation_order;
 use graph::sort_by;
 use moves::MOST_REGISTERS;
 use netlist::Netlist;
@@ -23,25 +28,15 @@ ghost use Rattle.simulate.specs.inner.Ran.{Steppable};
 ghost use Rattle.moves.specs.inner.Labels.{Labelled};
 ghost use Rattle.starts.specs.inner.Ring.{AskedAt, Followed, NothingYet, slotOf, Puts, SlotsOf, Slotable, SlotableOf};
 
-// The ring holds the last 64 clocks, a row of one value for each node; then 0 and 1.
-const CLOCKS: usize = 64;
-
+// Behind the rows stand 0 and 1.
 const ZERO: usize = CLOCKS * NODES;
 
 const ONE: usize = ZERO + 1;
 
 const SLOTS: usize = ZERO + 2;
 
-// As the numbers of slots are held.
-const ROW: u16 = NODES as u16;
-
-const ROWS: u16 = ZERO as u16;
-
 // From this clock on no start value shows any more.
 const SPENT: usize = MOST_REGISTERS as usize;
-
-// After so many clocks the list is looked through again.
-const SPELL: usize = 32;
 
 // The ring before clock 0.
 fn empty() -> [u8; SLOTS]
@@ -112,19 +107,8 @@ fn place<'a>(
     }
 }
 
-// A row further, round the ring.
-fn advance(edges: usize, slots: &mut [u16])
-    requires { ⌜ edges ≤ length (now slots) ⌝ }
-    ensures { λ _. ⌜ ((k : ℕ) → k < edges → at (now (slots .exit)) k ≡ (at (now (slots .entry)) k % 32768 + 512) % 32768) ⌝ }
-{
-    let mut k = 0;
-    while k < edges {
-        slots[k] = (slots[k] % ROWS + ROW) % ROWS;
-        k += 1;
-    }
-}
-
-// The slots of clock s, for the first n nodes of the list: from clock 33 on no start value shows any more, so they are a row further than those of the clock before.
+// The slots of clock s, for the first n nodes of the list: found anew every 32 clocks, and while a start value may show; else a row further than those of the clock
+// before.
 fn turn<'a>(
     list: &[u16],
     n: usize,
@@ -139,14 +123,16 @@ fn turn<'a>(
 )
     requires { ⌜ (n ≤ length (now list)) × (edges ≤ length (now slots)) ⌝ }
     requires { ⌜ SlotableOf (now list) n (now first) (now ins) (now from) (now count) (now start) edges ⌝ }
-    requires { ⌜ ((t : ℕ) → 32 ≤ t → t + 1 ≡ s → SlotsOf (now list) n (now first) (now ins) (now from) (now count) (now start) t (now slots)) ⌝ }
+    requires { ⌜ ((t : ℕ) → 32 ≤ t → t + 1 ≡ s → 0 < s % 32 → SlotsOf (now list) n (now first) (now ins) (now from) (now count) (now start) t (now slots)) ⌝ }
     ensures { λ _. ⌜ SlotsOf (now (list .entry)) n (now (first .entry)) (now (ins .entry)) (now (from .entry)) (now (count .entry)) (now (start .entry)) s (now (slots .exit)) ⌝ }
 {
-    if s <= SPENT {
-        place(list, n, first, ins, from, count, start, s, slots);
-    } else {
-        advance(edges, slots);
+    if SPENT < s {
+        if 0 < s % SPELL {
+            advance(edges, slots);
+            return;
+        }
     }
+    place(list, n, first, ins, from, count, start, s, slots);
 }
 
 // The nodes of the list that are asked for at clock s: those whose lag is below −s. They stay in their order: how many.
@@ -203,7 +189,7 @@ fn follow(net: Netlist, lab: &[u32], clocks: usize) -> [u8; SLOTS]
     let nodes = net.nodes as usize;
     let edges = net.edges as usize;
     let mut ring = empty();
-    let mut list = by_rank(&net.from, &net.to, &net.count, nodes, edges);
+    let mut list = evaluation_order(&net.from, &net.to, &net.count, nodes, edges);
     let mut ins = [0u16; EDGES];
     let mut first = [0u16; NODES + 1];
     sort_by(&net.to, edges, nodes, &mut ins, &mut first);
@@ -227,9 +213,9 @@ fn follow(net: Netlist, lab: &[u32], clocks: usize) -> [u8; SLOTS]
             s,
             &mut slots,
         );
-        let row = s % CLOCKS * NODES;
-        evaluate(&list, &truth, &index, &first, &slots, n, row, &mut ring);
-        s += 1;
+        let k = stride(&net.from, &net.to, &net.count, edges, &list, n, s);
+        take(&list, &truth, &index, &first, &slots, n, s, k, &mut ring);
+        s += k;
     }
     ring
 }

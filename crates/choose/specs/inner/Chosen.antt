@@ -9,12 +9,10 @@ use mathlib.Core.Bool.{Bool, true, false}
 use mathlib.Core.List.{List}
 use Prim.Native.Nat.{ℕ, _+_, _-_, _<_, _≤_}
 use lib.IntN.{ℤ}
-use Rattle.theory.specs.Gate.{gate}
-use Rattle.theory.specs.Move.{digit, Best}
-use Rattle.theory.specs.Retimer.{NoStart}
+use Rattle.theory.specs.Move.{digit}
 use Rattle.graph.specs.Columns.{at}
 use Rattle.netlist.specs.declared.Netlist.{Netlist}
-use Rattle.netlist.specs.Net.{graphOf, regsOf}
+use Rattle.netlist.specs.Circuit.{BestAt, StartlessAt}
 use Rattle.moves.specs.Moved.{wordOf}
 use Rattle.moves.specs.inner.Chosen.{EdgeWords}
 
@@ -29,9 +27,9 @@ RunWords c k base edges words = (e : ℕ) → e < edges → at words e ≡ runWo
 
 pub record BestWords (net : Netlist) (r : ℕ → ℤ) (words : List ℕ) : Type 0 where
   pub number : ℕ
-  pub best : Best gate (graphOf net) (regsOf net) r number
+  pub best : BestAt net r number
   pub its-words : EdgeWords net r number words
 
 abbrev pub Chosen : Netlist → (ℕ → ℤ) → Bool → List ℕ → Type 0
 Chosen net r true words = BestWords net r words
-Chosen net r false words = NoStart gate (graphOf net) (regsOf net) r
+Chosen net r false words = StartlessAt net r

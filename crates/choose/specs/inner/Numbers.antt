@@ -1,5 +1,6 @@
 -- The cells, numbered clock by clock and within a clock in evaluation order. The cell of node v at clock t has the code 32 v + t.
 --   lagAt               a node's lag where it is positive, else 0
+--   LagsBelow           so many clocks, 24 at most, and no lag of the first nodes is above them
 --   Arranged            an order of the nodes, each once
 --   EarlierCell         node v at clock s comes before place p of clock t
 --   CellNumbered, CellsNumbered  all cells before place p of clock t are numbered: `id` has a code's number, `code` a number's code
@@ -15,6 +16,10 @@ use Rattle.moves.specs.inner.Labels.{lagsOf}
 
 abbrev pub lagAt : List ℕ → ℕ → ℕ
 lagAt lab v = up (lagsOf lab v)
+
+pub record LagsBelow (lab : List ℕ) (nodes clocks : ℕ) : Type 0 where
+  pub few : clocks ≤ 24
+  pub low : (v : ℕ) → v < nodes → lagAt lab v ≤ clocks
 
 pub record Arranged (order : List ℕ) (nodes : ℕ) : Type 0 where
   pub few : nodes ≤ 512

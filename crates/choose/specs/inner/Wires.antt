@@ -10,13 +10,12 @@ use mathlib.Core.List.{List}
 use Prim.Native.Nat.{ℕ, _<_, _≤_}
 use lib.IntN.{ℤ}
 use lib.ListN.{length}
-use Rattle.theory.specs.Gate.{gate}
-use Rattle.theory.specs.Move.{sum, Carried, choiceOf, Best}
-use Rattle.theory.specs.Retimer.{NoStart}
+use Rattle.theory.specs.Move.{sum}
 use Rattle.graph.specs.Columns.{at}
 use Rattle.graph.specs.inner.Sort.{Sorts}
 use Rattle.netlist.specs.declared.Netlist.{Netlist}
-use Rattle.netlist.specs.Net.{graphOf, regsOf}
+use Rattle.netlist.specs.Circuit.{BestAt, StartlessAt, choiceAt}
+use Rattle.netlist.specs.inner.Words.{CarriedAt}
 use Rattle.search.specs.inner.Program.{programOf, RightProgram, Owes, GivesDues}
 use Rattle.choose.specs.inner.Sources.{widthAt, OperandRows, Operands}
 
@@ -42,10 +41,10 @@ pub record Wires (net : Netlist) (counts base id code : List ℕ) (cells : ℕ) 
   pub operands : Operands (net .from) ins begin counts base id code cells first operand
 
 abbrev pub Chooses : Netlist → (ℕ → ℤ) → Bool → ℕ → Type 0
-Chooses net r true c = Best gate (graphOf net) (regsOf net) r c
-Chooses net r false c = NoStart gate (graphOf net) (regsOf net) r
+Chooses net r true c = BestAt net r c
+Chooses net r false c = StartlessAt net r
 
 pub record Standing (net : Netlist) (r : ℕ → ℤ) (k cells rows : ℕ) (kind first operand due begin : List ℕ) : Type 0 where
   pub right : RightProgram cells k (programOf kind first operand)
   pub owes : Owes cells due begin rows
-  pub holds : (c : ℕ) → GivesDues k (programOf kind first operand) due (at begin rows) c ↔ Carried gate (graphOf net) (regsOf net) r (choiceOf (graphOf net) (regsOf net .count) r c)
+  pub holds : (c : ℕ) → GivesDues k (programOf kind first operand) due (at begin rows) c ↔ CarriedAt net r (choiceAt net r c)

@@ -1,102 +1,19 @@
--- `frame::frame_at` meets its contract: no line is longer than 16 bytes and its kind, none passes the end of the text, and the kind's byte is read first.
-use mathlib.Core.Path.{sym, _∙_}
-use native.Mathlib.Omega.{arith}
-use lib.ListN.{drop, length-drop}
-use borrow.Author.Tests.{lt-leb}
-use Rattle.frame.specs.inner.Decoded.{framed}
-use Rattle.frame.proofs.Steps.{frame-short, framed-as, kind-same, kind-other}
+-- `frame::frame_at` meets its contract: the table is made, and lent.
 use borrow.Author.Needs.{needs}
 use Rattle.frame.proofs.frame_at.Statement.{statement}
 use Rattle.frame.proofs.frame_at.Tie as tie
 
-none-requires : tie.Need-none-requires
-none-requires c κs = search needs
+digit-table-requires : tie.Need-digit-table-requires
+digit-table-requires c κs = search needs
+
+slice-aggregate-frame-by : tie.Need-slice-aggregate-frame-by
+slice-aggregate-frame-by c = search needs
+
+frame-by-requires : tie.Need-frame-by-requires
+frame-by-requires c κs = search needs
 
 returns : tie.Need-returns
-unfolding framed
-returns c = rw (lt-leb (c .before .before .before .args .n) 16 (c .before .if1 .taken)) (c .none .ensures)
-
-none-requires-2 : tie.Need-none-requires-2
-none-requires-2 c κs = search needs
-
-returns-2 : tie.Need-returns-2
-returns-2 c =
-    let a = c .before .before .before .before .args in
-    let e = frame-short (a .kind) (a .n) (drop (a .at) (a .text .now)) (rw length-drop (omega arith)) in
-    c .none2 .ensures ∙ framed-as (a .kind) (a .n) (drop (a .at) (a .text .now)) (omega arith) e
-
-sub-if3 : tie.Need-sub-if3
-sub-if3 c = omega arith
-
-mul-if3 : tie.Need-mul-if3
-mul-if3 c = omega arith
-
-add-if3 : tie.Need-add-if3
-add-if3 c = omega arith
-
-none-requires-3 : tie.Need-none-requires-3
-none-requires-3 c κs = search needs
-
-returns-3 : tie.Need-returns-3
-returns-3 c =
-    let a = c .before .before .before .before .before .args in
-    let e = frame-short (a .kind) (a .n) (drop (a .at) (a .text .now)) (rw length-drop (omega arith)) in
-    c .none3 .ensures ∙ framed-as (a .kind) (a .n) (drop (a .at) (a .text .now)) (omega arith) e
-
-shared-slice-read-byte : tie.Need-shared-slice-read-byte
-shared-slice-read-byte c = omega arith
-
-add-byte : tie.Need-add-byte
-add-byte c = omega arith
-
-shared-slice-read-byte-2 : tie.Need-shared-slice-read-byte-2
-shared-slice-read-byte-2 c = omega arith
-
-byte-requires : tie.Need-byte-requires
-byte-requires c κs = search needs
-
-none-requires-4 : tie.Need-none-requires-4
-none-requires-4 c κs = search needs
-
-returns-4 : tie.Need-returns-4
-returns-4 c =
-    let d = c .before .before in
-    let a = d .before .before .before .before .before .before .before .args in
-    let e = kind-other (a .kind) (a .n) (a .at) (a .text .now) (omega arith) (λ k. c .before .if4 .taken (d .byte .ensures ∙ k)) in
-    c .none4 .ensures ∙ framed-as (a .kind) (a .n) (drop (a .at) (a .text .now)) (omega arith) e
-
-add-line-at : tie.Need-add-line-at
-add-line-at c = omega arith
-
-line-at-requires : tie.Need-line-at-requires
-line-at-requires c κs = omega arith
-
-returns-5 : tie.Need-returns-5
-returns-5 c =
-    let d = c .before .before in
-    let a = d .before .before .before .before .before .before .before .args in
-    let e = kind-same (a .kind) (a .n) (a .at) (a .text .now) (omega arith) (omega arith) (sym (d .byte .ensures) ∙ c .before .if4 .left) in
-    c .line-at .ensures ∙ framed-as (a .kind) (a .n) (drop (a .at) (a .text .now)) (omega arith) e
+returns c = c .frame-by .ensures (c .before .before .digit-table .ensures)
 
 pub frame-at-spec : {M : Type 1} → statement M
-frame-at-spec =
-    tie.close
-    (tie.spec
-    none-requires
-    returns
-    none-requires-2
-    returns-2
-    sub-if3
-    mul-if3
-    add-if3
-    none-requires-3
-    returns-3
-    shared-slice-read-byte
-    add-byte
-    shared-slice-read-byte-2
-    byte-requires
-    none-requires-4
-    returns-4
-    add-line-at
-    line-at-requires
-    returns-5)
+frame-at-spec = tie.close (tie.spec digit-table-requires slice-aggregate-frame-by frame-by-requires returns)

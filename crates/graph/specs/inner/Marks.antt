@@ -1,6 +1,6 @@
--- What the small loops of `looped` and `reached` find.
+-- Small things that arrival times tell of.
 --   Above               one of the first n is above p
---   markOf              1 for the kind that is asked for, else 0
+--   oneIf, markOf       1 for the kind that is asked for, else 0
 use mathlib.Core.Bool.{Bool, true, false}
 use mathlib.Core.List.{List}
 use Prim.Native.Nat.{ℕ, _<_}

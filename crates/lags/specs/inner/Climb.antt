@@ -1,8 +1,6 @@
 -- Climbing: labels and arrival times together, from below. A mark is label · 2^20 + time.
 --   labelOf, timeOf     a mark's label and time
 --   floorOf             the mark that a node has by its kind alone: at a pin label 16,384
---   InEdges             the edges by the node that they enter, and a list of all nodes
---   Climbing            what a climb goes by
 --   Askable             edges that can be asked
 --   AskedMark           the highest mark that a floor and some edges ask for
 --   Takes               the mark of a node with a delay, after what is asked of it
@@ -17,16 +15,13 @@ use mathlib.Core.Logic.{_⊎_}
 use Prim.Native.Nat.{ℕ, suc, _+_, _*_, _/_, _%_, _≤_, _<_}
 use lib.Dec.{leb}
 use lib.ListN.{length}
-use Rattle.theory.specs.Graph.{Pin}
 use Rattle.theory.specs.inner.Arrival.{Infeasible, UnderAll}
 use Rattle.graph.specs.Columns.{at}
-use Rattle.graph.specs.inner.Sort.{Stands}
 use Rattle.netlist.specs.declared.Netlist.{Netlist}
 use Rattle.netlist.specs.Net.{graphOf, regsOf, delayOf}
+use Rattle.netlist.specs.inner.Words.{PinIn}
 use Rattle.lags.specs.declared.climb.Swept.{Swept}
 use Rattle.lags.specs.declared.climb.Swept.the-variants.{Still, Moved, Late, High}
-use Rattle.lags.specs.inner.Lags.{Sure}
-use Rattle.lags.specs.inner.Rounds.{Delayed}
 
 abbrev pub labelOf : ℕ → ℕ
 labelOf m = m / 1048576
@@ -36,28 +31,6 @@ timeOf m = m % 1048576
 
 unfoldable pub floorOf : ℕ → ℕ
 floorOf kind = cond (leb kind 1) 17179869184 0
-
--- ── What a climb goes by ────────────────────────────────────────────────────────────────────
-
--- The edges that enter v stand in `ins` from place `first v` up to `first (v + 1)`.
-pub record InEdges (net : Netlist) (ins first order : List ℕ) : Type 0 where
-  pub ins-rows : net .edges ≤ length ins
-  pub first-rows : net .nodes < length first
-  pub order-rows : net .nodes ≤ length order
-  pub up : (v : ℕ) → v < net .nodes → at first v ≤ at first (v + 1)
-  pub within : (v : ℕ) → v < net .nodes → at first (v + 1) ≤ net .edges
-  pub edge : (k : ℕ) → k < net .edges → at ins k < net .edges
-  pub enters : (v k : ℕ) → v < net .nodes → at first v ≤ k → k < at first (v + 1) → at (net .to) (at ins k) ≡ v
-  pub stands : (e : ℕ) → e < net .edges → (k : ℕ) × (at first (at (net .to) e) ≤ k) × (k < at first (at (net .to) e + 1)) × (at ins k ≡ e)
-  pub node : (i : ℕ) → i < net .nodes → at order i < net .nodes
-  pub every : (v : ℕ) → v < net .nodes → Stands order (net .nodes) v
-
-pub record Climbing (net : Netlist) (period : ℕ) (ins first order delay : List ℕ) : Type 0 where
-  pub sure : Sure net
-  pub wires : InEdges net ins first order
-  pub delayed : Delayed (net .delay) (net .derate) (net .nodes) delay
-  pub delay-rows : net .nodes ≤ length delay
-  pub period-small : period < 1000000
 
 -- ── One node ────────────────────────────────────────────────────────────────────────────────
 
@@ -89,7 +62,7 @@ Lower net period v mark = UnderAll (graphOf net) (regsOf net .count) (delayOf ne
 pub record Marked (net : Netlist) (period : ℕ) (mark : List ℕ) : Type 0 where
   pub rows : net .nodes ≤ length mark
   pub low : (v : ℕ) → v < net .nodes → at mark v < 34359738368
-  pub pinned : (v : ℕ) → v < net .nodes → Pin (graphOf net) v → labelOf (at mark v) ≤ 16384
+  pub pinned : (v : ℕ) → v < net .nodes → PinIn net v → labelOf (at mark v) ≤ 16384
   pub under : (v : ℕ) → v < net .nodes → Lower net period v (at mark v)
 
 abbrev pub SweepLeaves : Netlist → ℕ → List ℕ → List ℕ → List ℕ → List ℕ → Swept → Type 0

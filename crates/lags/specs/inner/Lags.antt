@@ -6,13 +6,12 @@ use mathlib.Core.Path.{_≡_}
 use mathlib.Core.Bool.{true, false}
 use Prim.Native.Nat.{ℕ, _<_}
 use lib.IntN.{ℤ, pos, _-ℤ_}
-use Rattle.theory.specs.Graph.{Pin}
-use Rattle.theory.specs.Walk.{FromInput, Loop}
-use Rattle.theory.specs.Lag.{Least}
-use Rattle.theory.specs.Retimer.{NoRetiming}
+use Rattle.theory.specs.Walk.{FromInput}
 use Rattle.graph.specs.Columns.{at}
 use Rattle.netlist.specs.declared.Netlist.{Netlist}
-use Rattle.netlist.specs.Net.{graphOf, regsOf, delayOf}
+use Rattle.netlist.specs.Net.{graphOf}
+use Rattle.netlist.specs.Circuit.{LeastIn, LoopIn, NoneMeetsIn}
+use Rattle.netlist.specs.inner.Words.{PinIn}
 use Rattle.netlist.specs.Theorems.{Fit}
 use Rattle.lags.specs.declared.Labels.{Labels}
 
@@ -22,11 +21,11 @@ lagOf l = pos l -ℤ pos 16384
 -- The lines keep their rules, no loop is without a register, and an input reaches every gate: half of rule 7. (Nothing here needs rule 5.)
 pub record Sure (net : Netlist) : Type 0 where
   pub fit : Fit net
-  pub no-loop : ¬ Loop (graphOf net) (regsOf net .count)
-  pub fed : (v : ℕ) → v < net .nodes → ¬ Pin (graphOf net) v → FromInput (graphOf net) v
+  pub no-loop : ¬ LoopIn net
+  pub fed : (v : ℕ) → v < net .nodes → ¬ PinIn net v → FromInput (graphOf net) v
 
 -- Whether or not there is a retiming, each label is such that its lag fits 16 bits.
 pub record Leasts (net : Netlist) (period : ℕ) (r : Labels) : Type 0 where
-  pub least : r .found ≡ true → Least (graphOf net) (regsOf net .count) (delayOf net) period (λ v. lagOf (at (r .lab) v))
-  pub none : r .found ≡ false → NoRetiming (graphOf net) (regsOf net .count) (delayOf net) period
+  pub least : r .found ≡ true → LeastIn net period (λ v. lagOf (at (r .lab) v))
+  pub none : r .found ≡ false → NoneMeetsIn net period
   pub small : (v : ℕ) → v < net .nodes → at (r .lab) v < 32768

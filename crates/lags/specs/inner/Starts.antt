@@ -12,12 +12,12 @@ use mathlib.Core.List.{List}
 use Prim.Native.Nat.{ℕ, _+_, _≤_, _<_}
 use lib.Dec.{leb}
 use lib.ListN.{length}
-use Rattle.theory.specs.Graph.{Pin}
 use Rattle.theory.specs.Move.{sum}
 use Rattle.theory.specs.inner.Arrival.{FromPin}
 use Rattle.graph.specs.Columns.{at}
 use Rattle.netlist.specs.declared.Netlist.{Netlist}
 use Rattle.netlist.specs.Net.{graphOf, regsOf}
+use Rattle.netlist.specs.inner.Words.{PinIn}
 
 unfoldable pub startOf : ℕ → ℕ
 startOf kind = cond (leb kind 1) 0 16384
@@ -28,7 +28,7 @@ distanceSum net far = sum (λ v. at far v) (net .nodes)
 pub record Far (net : Netlist) (far : List ℕ) : Type 0 where
   pub rows : net .nodes ≤ length far
   pub low : (v : ℕ) → v < net .nodes → at far v ≤ 16384
-  pub pins : (v : ℕ) → v < net .nodes → Pin (graphOf net) v → at far v ≡ 0
+  pub pins : (v : ℕ) → v < net .nodes → PinIn net v → at far v ≡ 0
   pub reached : (v : ℕ) → v < net .nodes → FromPin (graphOf net) (regsOf net .count) v (at far v)
 
 abbrev pub NoShorter : Netlist → List ℕ → ℕ → Type 0

@@ -7,18 +7,18 @@ use mathlib.Core.List.{List}
 use Prim.Native.Nat.{ℕ, _^_, _<_, _≤_}
 use lib.IntN.{ℤ}
 use lib.ListN.{length}
-use Rattle.theory.specs.Move.{chosenOn, choiceOf}
 use Rattle.graph.specs.Columns.{at}
 use Rattle.netlist.specs.declared.Netlist.{Netlist}
-use Rattle.netlist.specs.Net.{graphOf, regsOf}
+use Rattle.netlist.specs.Circuit.{choiceAt}
+use Rattle.netlist.specs.inner.Words.{chosenOnAt}
 use Rattle.moves.specs.Moved.{wordOf}
 
 abbrev pub chosenWord : Netlist → (ℕ → ℤ) → ℕ → ℕ → ℕ
-chosenWord net r c e = wordOf (choiceOf (graphOf net) (regsOf net .count) r c e) (chosenOn (graphOf net) (regsOf net .count) r e)
+chosenWord net r c e = wordOf (choiceAt net r c e) (chosenOnAt net r e)
 
 abbrev pub EdgeWords : Netlist → (ℕ → ℤ) → ℕ → List ℕ → Type 0
 EdgeWords net r c words = (e : ℕ) → e < net .edges → at words e ≡ chosenWord net r c e
 
 pub record ShortWords (net : Netlist) (r : ℕ → ℤ) (words : List ℕ) : Type 0 where
   pub rows : net .edges ≤ length words
-  pub fits : (e : ℕ) → e < net .edges → at words e < 2 ^ chosenOn (graphOf net) (regsOf net .count) r e
+  pub fits : (e : ℕ) → e < net .edges → at words e < 2 ^ chosenOnAt net r e

@@ -9,11 +9,10 @@ use mathlib.Core.List.{List}
 use Prim.Native.Nat.{ℕ, _<_, _≤_}
 use lib.IntN.{ℤ}
 use lib.ListN.{length}
-use Rattle.theory.specs.Lag.{newCount, Legal}
-use Rattle.theory.specs.Move.{sum, chosenOn}
+use Rattle.theory.specs.Move.{sum}
 use Rattle.graph.specs.Columns.{at}
 use Rattle.netlist.specs.declared.Netlist.{Netlist}
-use Rattle.netlist.specs.Net.{graphOf, regsOf}
+use Rattle.netlist.specs.inner.Words.{LegalAt, chosenOnAt, newCountAt}
 use Rattle.netlist.specs.Theorems.{Fit}
 use Rattle.lags.specs.inner.Lags.{lagOf}
 
@@ -24,10 +23,10 @@ pub record Labelled (net : Netlist) (lab : List ℕ) : Type 0 where
   pub fit : Fit net
   pub rows : net .nodes ≤ length lab
   pub small : (v : ℕ) → v < net .nodes → at lab v < 32768
-  pub legal : Legal (graphOf net) (regsOf net .count) (lagsOf lab)
+  pub legal : LegalAt net (lagsOf lab)
 
 abbrev pub countAt : Netlist → List ℕ → ℕ → ℕ
-countAt net lab e = newCount (graphOf net) (regsOf net .count) (lagsOf lab) e
+countAt net lab e = newCountAt net (lagsOf lab) e
 
 abbrev pub Counts : Netlist → List ℕ → List ℕ → Type 0
 Counts net lab counts = (e : ℕ) → e < net .edges → at counts e ≡ countAt net lab e
@@ -38,7 +37,7 @@ pub record Wide (counts : List ℕ) (edges r : ℕ) : Type 0 where
   pub wide : r < edges → 32 < at counts r
 
 abbrev pub chosenAt : Netlist → List ℕ → ℕ → ℕ
-chosenAt net lab e = chosenOn (graphOf net) (regsOf net .count) (lagsOf lab) e
+chosenAt net lab e = chosenOnAt net (lagsOf lab) e
 
 abbrev pub Bases : Netlist → List ℕ → List ℕ → Type 0
 Bases net lab base = (e : ℕ) → e ≤ net .edges → at base e ≡ sum (chosenAt net lab) e

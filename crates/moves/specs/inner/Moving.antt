@@ -5,11 +5,9 @@ use mathlib.Core.Path.{_≡_}
 use mathlib.Core.List.{List}
 use Prim.Native.Nat.{ℕ, _<_, _≤_}
 use lib.ListN.{length}
-use Rattle.theory.specs.Gate.{gate}
-use Rattle.theory.specs.Retimer.{Sound}
 use Rattle.graph.specs.Columns.{at}
 use Rattle.netlist.specs.declared.Netlist.{Netlist}
-use Rattle.netlist.specs.Net.{graphOf, regsOf}
+use Rattle.netlist.specs.Circuit.{SoundIn}
 use Rattle.simulate.specs.inner.Ran.{Steppable}
 use Rattle.lags.specs.inner.Lags.{Sure}
 use Rattle.moves.specs.inner.Labels.{Labelled, Counts, Bases}
@@ -17,7 +15,7 @@ use Rattle.moves.specs.inner.Labels.{Labelled, Counts, Bases}
 pub record Moving (net : Netlist) (lab counts : List ℕ) : Type 0 where
   pub steppable : Steppable net
   pub sure : Sure net
-  pub sound : Sound gate (graphOf net) (regsOf net)
+  pub sound : SoundIn net
   pub labelled : Labelled net lab
   pub counted : Counts net lab counts
   pub count-rows : net .edges ≤ length counts

@@ -13,9 +13,10 @@ use Rattle.netlist.specs.Answer.{Said, atLine}
 use Rattle.netlist.specs.Read.{Lines, fault, lines, nothingMore, linesOf, nodesFrom, edgesFrom}
 use Rattle.netlist.specs.Write.{textOf}
 use Rattle.netlist.specs.Theorems.{FitTo, Fit, Clean, toNode, toEdge, FaultAt, head-frame, head-range, node-frame, node-rule, edge-frame, edge-rule, surplus, LinesFact, FaultFact, FaultPlace}
+use Rattle.netlist.specs.inner.Record.{cut}
 use Rattle.netlist.proofs.Fits.{clash}
-use Rattle.netlist.proofs.Rows.{column-is}
-use Rattle.netlist.proofs.Run.{cut, run-nodes, run-edges, fit-rows, cut-fits}
+use Rattle.netlist.proofs.Rows.{rowsTo-is}
+use Rattle.netlist.proofs.Run.{run-nodes, run-edges, fit-rows, cut-fits}
 use Rattle.netlist.proofs.Account.{Account, right, wrong, account}
 
 -- ── No fault ────────────────────────────────────────────────────────────────────────────────
@@ -31,12 +32,12 @@ text-lines net f = ap linesOf (sym (append-nil (textOf net))) ∙ run-edges net 
 cut-clean : (net : Netlist) → Fit net → Clean net → cut net (net .nodes) (net .edges) ≡ net
 cut-clean net f c =
     let rows = fit-rows net f in
-    let a = column-is 512 (net .nodes) (net .kind) (c .kinds .0) (rows .0) (λ i l. c .node i l .0) in
-    let b = column-is 512 (net .nodes) (net .delay) (c .kinds .1) (rows .0) (λ i l. c .node i l .1) in
-    let x = column-is 1024 (net .edges) (net .from) (c .ends .0) (rows .1) (λ i l. c .edge i l .0) in
-    let y = column-is 1024 (net .edges) (net .to) (c .ends .1) (rows .1) (λ i l. c .edge i l .1) in
-    let z = column-is 1024 (net .edges) (net .count) (c .ends .2) (rows .1) (λ i l. c .edge i l .2) in
-    let s = column-is 1024 (net .edges) (net .start) (c .ends .3) (rows .1) (λ i l. c .edge i l .3) in
+    let a = rowsTo-is 512 (net .nodes) (net .kind) (c .kinds .0) (rows .0) (λ i l. c .node i l .0) in
+    let b = rowsTo-is 512 (net .nodes) (net .delay) (c .kinds .1) (rows .0) (λ i l. c .node i l .1) in
+    let x = rowsTo-is 1024 (net .edges) (net .from) (c .ends .0) (rows .1) (λ i l. c .edge i l .0) in
+    let y = rowsTo-is 1024 (net .edges) (net .to) (c .ends .1) (rows .1) (λ i l. c .edge i l .1) in
+    let z = rowsTo-is 1024 (net .edges) (net .count) (c .ends .2) (rows .1) (λ i l. c .edge i l .2) in
+    let s = rowsTo-is 1024 (net .edges) (net .start) (c .ends .3) (rows .1) (λ i l. c .edge i l .3) in
     λ i. record {
       period = net .period;
       derate = net .derate;

@@ -1,7 +1,6 @@
 -- A record's own lines: never refused 1, refused nothing exactly where they keep the rules, and read back they are the same netlist.
 --   Outcome net         its lines keep the rules, or one is the first that breaks its rule
 --   head-breaks, node-breaks, edge-breaks    the first line that breaks its rule has that fault
---   head-right          where no line has a fault, the head is in its ranges
 --   cut-same            the rows that are read back are the netlist's
 --   record-faults, record-fact, record-judged
 use Prim.Native.Nat.{ℕ, _+_, _<_}
@@ -17,10 +16,11 @@ use Rattle.netlist.specs.Answer.{Said, atLine}
 use Rattle.netlist.specs.Read.{fault, lines, linesOf, All, Lowest, Judged, kept, Reads, judged}
 use Rattle.netlist.specs.Write.{headLine, nodeLine, edgeLine, joined, textOf}
 use Rattle.netlist.specs.Theorems.{headTest, nodeTest, edgeTest, FitTo, Fit, FaultAt, head-range, node-rule, edge-rule, Same, Typed, RecordFault, bad-head, bad-node, bad-edge, RecordFaults, RecordFact, RecordJudged}
+use Rattle.netlist.specs.inner.Record.{cut}
 use Rattle.netlist.proofs.Fits.{clash}
-use Rattle.netlist.proofs.Rows.{column-in, joined-split}
+use Rattle.netlist.proofs.Rows.{rowsTo-in, joined-split}
 use Rattle.netlist.proofs.Fields.{headBytes, edgeBytes, four-numbers, four-frame, nodeBytes, node-numbers, node-frame}
-use Rattle.netlist.proofs.Run.{cut, fit-rows, fit-wired}
+use Rattle.netlist.proofs.Run.{fit-rows, fit-wired}
 use Rattle.netlist.proofs.Decide.{lowest, judge}
 use Rattle.netlist.proofs.Alike.{judged-same}
 use Rattle.netlist.proofs.theorems.One.{one-reading}
@@ -40,27 +40,18 @@ data Outcome (net : Netlist) : Type 0 where
   fits : Fit net → Outcome net
   breaks : (q n : ℕ) → RecordFault net q n → Outcome net
 
-pub head-breaks : (net : Netlist) → net .period < 65536 → net .derate < 256 → net .nodes < 65536 → net .edges < 65536 → headTest net ≡ false → FaultAt (textOf net) 2 1
-unfolding textOf
-head-breaks net hp hd hn he h =
-    let p = net .period in
-    let d = net .derate in
-    let n = net .nodes in
-    let e = net .edges in
-    let x = four-numbers 2 1 2 2 p d n e hp hd hn he in
-    let rest = joined (nodeLine net) n ++ joined (edgeLine net) e in
-    head-range (headBytes p d n e) rest (ap (frameAt 1 7) (append-assoc (headLine net) (joined (nodeLine net) n) (joined (edgeLine net) e)) ∙ four-frame 2 1 2 2 p d n e 1 rest (omega arith)) (rw (x .0, x .1, x .2, x .3) h)
-
--- So a record whose lines are right has its head in its ranges.
-pub head-right : (net : Netlist) → net .period < 65536 → net .derate < 256 → net .nodes < 65536 → net .edges < 65536
-    → {back : Netlist} → linesOf (textOf net) ≡ lines back → headTest net ≡ true
-head-right net hp hd hn he p = go (headTest net) refl
-  where
-    go : (b : Bool) → headTest net ≡ b → headTest net ≡ true
-    go true h = h
-    go false h = let f = fault-lines (head-breaks net hp hd hn he h) in clash (cc)
-
 module _ (net : Netlist) (t : Typed net) where
+  head-breaks : headTest net ≡ false → FaultAt (textOf net) 2 1
+  unfolding textOf
+  head-breaks h =
+      let p = net .period in
+      let d = net .derate in
+      let n = net .nodes in
+      let e = net .edges in
+      let x = four-numbers 2 1 2 2 p d n e (t .head .0) (t .head .1) (t .head .2) (t .head .3) in
+      let rest = joined (nodeLine net) n ++ joined (edgeLine net) e in
+      head-range (headBytes p d n e) rest (ap (frameAt 1 7) (append-assoc (headLine net) (joined (nodeLine net) n) (joined (edgeLine net) e)) ∙ four-frame 2 1 2 2 p d n e 1 rest (omega arith)) (rw (x .0, x .1, x .2, x .3) h)
+
   node-breaks : (v : ℕ) → FitTo net v 0 → v < net .nodes → nodeTest net v ≡ false → FaultAt (textOf net) 3 (v + 2)
   unfolding textOf
   node-breaks v f l h =
@@ -116,8 +107,8 @@ module _ (net : Netlist) where
 cut-same : (net : Netlist) → Fit net → Same net (cut net (net .nodes) (net .edges))
 cut-same net f =
     let rows = fit-rows net f in
-    let n = column-in 512 in
-    let e = column-in 1024 in
+    let n = rowsTo-in 512 in
+    let e = rowsTo-in 1024 in
     record {
       head = (refl, refl, refl, refl);
       node = λ v l. (sym (n (λ i. getD (net .kind) i 0) (net .nodes) (rows .0) v l), sym (n (λ i. getD (net .delay) i 0) (net .nodes) (rows .0) v l));
@@ -131,7 +122,7 @@ cut-same net f =
 
 module _ (net : Netlist) (t : Typed net) where
   broken : {q n : ℕ} → RecordFault net q n → linesOf (textOf net) ≡ fault (atLine q n)
-  broken (bad-head h) = fault-lines (head-breaks net (t .head .0) (t .head .1) (t .head .2) (t .head .3) h)
+  broken (bad-head h) = fault-lines (head-breaks net t h)
   broken (bad-node v f l h) = fault-lines (node-breaks net t v f l h)
   broken (bad-edge e f l h) = fault-lines (edge-breaks net t e f l h)
 

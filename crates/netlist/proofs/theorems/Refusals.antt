@@ -5,12 +5,12 @@
 use Prim.Native.Nat.{ℕ}
 use mathlib.Core.Path.{_≡_, refl, subst}
 use Rattle.theory.specs.Graph.{Wired}
-use Rattle.theory.specs.Walk.{Loop}
 use Rattle.netlist.specs.declared.Netlist.{Netlist}
 use Rattle.netlist.specs.Answer.{Said, value, whole, atNode}
 use Rattle.netlist.specs.Order.{here, past, GivenAt}
-use Rattle.netlist.specs.Net.{graphOf, regsOf}
-use Rattle.netlist.specs.Read.{FanInFits, InReach, All, Lowest, Judged}
+use Rattle.netlist.specs.Net.{graphOf}
+use Rattle.netlist.specs.Circuit.{LoopIn}
+use Rattle.netlist.specs.Read.{Judged, AllInReach, FanInsFit, OutOfReach, WrongFanIn}
 use Rattle.netlist.specs.Theorems.{Fit, Keeps, RefusalFacts}
 use Rattle.netlist.proofs.Fits.{clash}
 use Rattle.netlist.proofs.Run.{fit-wired}
@@ -18,31 +18,31 @@ use Rattle.netlist.proofs.Judged.{all-none, one-judged, judged-sound, r
 use Rattle.netlist.proofs.Decide.{none-all, fan-in?, joined?}
 use Rattle.netlist.proofs.theorems.Lines.{lines-fact}
 
-fans : (net : Netlist) → ((x : Said) → ¬ GivenAt (Lowest (FanInFits (graphOf net)) (net .nodes)) (atNode 5) x) → All (FanInFits (graphOf net)) (net .nodes)
+fans : (net : Netlist) → ((x : Said) → ¬ GivenAt (WrongFanIn net) (atNode 5) x) → FanInsFit net
 fans net = none-all (net .nodes) (atNode 5) (fan-in? (graphOf net))
 
 module _ (read : Netlist) (w : Wired (graphOf read)) {s : Said} where
-  five-fact : Judged read s → (v : ℕ) → s ≡ atNode 5 v → Lowest (FanInFits (graphOf read)) (read .nodes) v
-  five-fact (here (u, l, q)) v p = let e : u ≡ v = cc in subst (Lowest (FanInFits (graphOf read)) (read .nodes)) e l
+  five-fact : Judged read s → (v : ℕ) → s ≡ atNode 5 v → WrongFanIn read v
+  five-fact (here (u, l, q)) v p = let e : u ≡ v = cc in subst (WrongFanIn read) e l
   five-fact (past f (here (o, q))) v p = clash (cc)
   five-fact (past f (past o (here (u, l, q)))) v p = clash (cc)
   five-fact (past f (past o (past r q))) v p = clash (cc)
 
-  six-fact : Judged read s → s ≡ whole 6 → All (FanInFits (graphOf read)) (read .nodes) × Loop (graphOf read) (regsOf read .count)
+  six-fact : Judged read s → s ≡ whole 6 → FanInsFit read × LoopIn read
   six-fact (here (u, l, q)) p = clash (cc)
   six-fact (past f (here (o, q))) p = (fans read f, o)
   six-fact (past f (past o (here (u, l, q)))) p = clash (cc)
   six-fact (past f (past o (past r q))) p = clash (cc)
 
   seven-fact : Judged read s → (v : ℕ) → s ≡ atNode 7 v
-      → All (FanInFits (graphOf read)) (read .nodes) × (¬ Loop (graphOf read) (regsOf read .count)) × Lowest (InReach (graphOf read)) (read .nodes) v
+      → FanInsFit read × (¬ LoopIn read) × OutOfReach read v
   seven-fact (here (u, l, q)) v p = clash (cc)
   seven-fact (past f (here (o, q))) v p = clash (cc)
-  seven-fact (past f (past o (here (u, l, q)))) v p = let e : u ≡ v = cc in (fans read f, λ l. o (whole 6) (l, refl), subst (Lowest (InReach (graphOf read)) (read .nodes)) e l)
+  seven-fact (past f (past o (here (u, l, q)))) v p = let e : u ≡ v = cc in (fans read f, λ l. o (whole 6) (l, refl), subst (OutOfReach read) e l)
   seven-fact (past f (past o (past r q))) v p = clash (cc)
 
   none-fact : {n : ℕ} → Judged read s → s ≡ value n
-      → All (FanInFits (graphOf read)) (read .nodes) × (¬ Loop (graphOf read) (regsOf read .count)) × All (InReach (graphOf read)) (read .nodes)
+      → FanInsFit read × (¬ LoopIn read) × AllInReach read
   none-fact (here (u, l, q)) p = clash (cc)
   none-fact (past f (here (o, q))) p = clash (cc)
   none-fact (past f (past o (here (u, l, q)))) p = clash (cc)

@@ -12,10 +12,6 @@ use lib.Dec.{T, leb, eqb, leb→le, eqb→eq}
 use lib.IntN.{ℤ, pos}
 use lib.ListN.{length, drop}
 use lib.Seq.{ext-getD}
-use Rattle.theory.specs.Gate.{gate}
-use Rattle.theory.specs.Lag.{newCount}
-use Rattle.theory.specs.Move.{chosenIn}
-use Rattle.theory.specs.Retimer.{retimed}
 use Rattle.theory.proofs.cards.Tests.{ands, all, all-elim}
 use Rattle.theory.proofs.cards.Sweep.{at}
 use Rattle.theory.proofs.cards.Run.{graph, bit, regs}
@@ -23,6 +19,8 @@ use Rattle.theory.proofs.cards.Claims as T
 use Rattle.netlist.specs.declared.Netlist.{Netlist}
 use Rattle.netlist.specs.Answer.{value}
 use Rattle.netlist.specs.Net.{graphOf, regsOf, delayOf}
+use Rattle.netlist.specs.Circuit.{ManyAt, NarrowAt, chosenInAt}
+use Rattle.netlist.specs.inner.Words.{newCountAt, retimedAt}
 use Rattle.rules.specs.Rules.{every}
 use Rattle.netlist.specs.Read.{Reads}
 use Rattle.netlist.specs.Write.{textOf}
@@ -31,7 +29,7 @@ use Rattle.simulate.specs.Step.{onlyBits}
 use Rattle.simulate.specs.Run.{clocksFrom, clocks, runFits}
 use Rattle.simulate.proofs.Says.{Row, row-goes}
 use Rattle.moves.specs.Moved.{withRegs, movedNet}
-use Rattle.retime.specs.Retime.{NarrowAt, ManyAt, lagTable, MovedBy}
+use Rattle.retime.specs.Retime.{lagTable, MovedBy}
 use Rattle.retime.specs.Demand.{tableLag}
 use Rattle.retime.specs.Card.{ClaimOf, Claim}
 use Rattle.netlist.proofs.Rows.{rows-length, rows-in}
@@ -51,10 +49,10 @@ alike-yes a b =
 
 module _ (net : Netlist) where
   abbrev narrow? : (ℕ → ℤ) → Bool
-  narrow? r = all (net .edges) (λ e. leb (newCount (graphOf net) (regsOf net .count) r e) 32)
+  narrow? r = all (net .edges) (λ e. leb (newCountAt net r e) 32)
 
   abbrev few? : (ℕ → ℤ) → Bool
-  few? r = leb (chosenIn (graphOf net) (regsOf net .count) r) 24
+  few? r = leb (chosenInAt net r) 24
 
   abbrev goes? : List ℕ → Bool
   goes? vectors = every (eqb (length vectors % inputs net) 0 ∷ onlyBits vectors ∷ [])
@@ -72,19 +70,19 @@ module _ (net : Netlist) where
   lags-are r e = ext-getD (pos 0) (lagTable net (tableLag r)) r (rows-length (tableLag r) (net .nodes) ∙ sym e) (λ i h. rows-in (tableLag r) (pos 0) (net .nodes) i (omega (arith, rows-length (tableLag r) (net .nodes))))
 
   narrow-yes : (r : ℕ → ℤ) → T (narrow? r) → NarrowAt net r
-  narrow-yes r t e h = leb→le _ 32 (all-elim (net .edges) (λ e. leb (newCount (graphOf net) (regsOf net .count) r e) 32) t e h)
+  narrow-yes r t e h = leb→le _ 32 (all-elim (net .edges) (λ e. leb (newCountAt net r e) 32) t e h)
 
   few-yes : (r : ℕ → ℤ) → T (few? r) → ¬ ManyAt net r
-  few-yes r t h = omega (arith, leb→le (chosenIn (graphOf net) (regsOf net .count) r) 24 t)
+  few-yes r t h = omega (arith, leb→le (chosenInAt net r) 24 t)
 
   -- The retimed registers are those of the counts and words.
   moved-is : (r : ℕ → ℤ) (c : ℕ) (counts words : List ℕ)
-      → ((e : ℕ) → e < net .edges → retimed gate (graphOf net) (regsOf net) r c .count e ≡ at counts e)
-      → ((e : ℕ) → e < net .edges → (t : ℕ) → t < at counts e → retimed gate (graphOf net) (regsOf net) r c .start e t ≡ bit (at words e) t)
+      → ((e : ℕ) → e < net .edges → retimedAt net r c .count e ≡ at counts e)
+      → ((e : ℕ) → e < net .edges → (t : ℕ) → t < at counts e → retimedAt net r c .start e t ≡ bit (at words e) t)
       → withRegs net (newRegs counts words) ≡ movedNet net r c
   unfolding movedNet
   moved-is r c counts words a b =
-      with-same net (retimed gate (graphOf net) (regsOf net) r c) (newRegs counts words)
+      with-same net (retimedAt net r c) (newRegs counts words)
       (record { counts = λ e h. sym (a e h); starts = λ e t h l. sym (b e h t (omega (arith, a e h))) })
 
   run-says : (vectors : List ℕ) (n old : ℕ) → T (goes? vectors) → clocks net vectors * outputs net ≡ n → n ≤ old

@@ -1,6 +1,5 @@
 -- `retime::retime` meets its contract: the text is read, and then retimed.
 use borrow.Author.Needs.{needs}
-use denote.Ref.{now}
 use Rattle.retime.proofs.Stages.{stop, reads, goes-on}
 use Rattle.retime.proofs.retime.Statement.{statement}
 use Rattle.retime.proofs.retime.Tie as tie

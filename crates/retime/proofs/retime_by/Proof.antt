@@ -1,7 +1,6 @@
 -- `retime::retime_by` meets its contract.
 use native.Mathlib.Omega.{arith}
 use borrow.Author.Needs.{needs}
-use denote.Ref.{now}
 use Rattle.netlist.specs.Write.{textOf}
 use Rattle.netlist.proofs.theorems.Sound.{read-is-sound}
 use Rattle.simulate.proofs.Ran.{reads-steppable}

@@ -4,7 +4,6 @@ use mathlib.Core.Logic.{inl, inr}
 use native.Mathlib.Omega.{arith}
 use borrow.Author.Needs.{needs}
 use borrow.Author.Tests.{not-true, not-false}
-use denote.Ref.{now}
 use lib.ListN.{length}
 use Rattle.netlist.specs.Answer.{value}
 use Rattle.netlist.specs.Read.{Reads}

@@ -14,12 +14,10 @@ use mathlib.Core.List.{List, _++_}
 use lib.IntN.{ℤ, pos}
 use lib.ListN.{length, take, drop}
 use lib.Seq.{take-at}
-use Rattle.theory.specs.Graph.{Pin}
 use Rattle.theory.specs.Clock.{Trace}
 use Rattle.theory.specs.Gate.{gate}
-use Rattle.theory.specs.Lag.{up, down, newCount, Legal}
-use Rattle.theory.specs.Move.{quiet, Carries, choiceOf}
-use Rattle.theory.specs.Retimer.{Sound, retimed}
+use Rattle.theory.specs.Lag.{up, down}
+use Rattle.theory.specs.Move.{quiet, Carries}
 use Rattle.theory.specs.inner.Demand.{Demand}
 use Rattle.theory.proofs.numbers.Whole.{no-up}
 use Rattle.theory.proofs.walks.Walks.{walk-start, walk-shift}
@@ -32,6 +30,8 @@ use Rattle.theory.proofs.retimer.Levels.{lag-chosen}
 use Rattle.netlist.specs.declared.Netlist.{Netlist}
 use Rattle.netlist.specs.Answer.{Said, value, holds}
 use Rattle.netlist.specs.Net.{graphOf, regsOf, delayOf}
+use Rattle.netlist.specs.Circuit.{BestAt, NarrowAt, SoundIn, TraceIn, choiceAt}
+use Rattle.netlist.specs.inner.Words.{LegalAt, PinIn, newCountAt, retimedAt}
 use Rattle.netlist.specs.Read.{Reads}
 use Rattle.netlist.specs.Write.{textOf}
 use Rattle.netlist.proofs.Fits.{edge-fits}
@@ -42,7 +42,7 @@ use Rattle.simulate.specs.Run.{Runs}
 use Rattle.simulate.proofs.theorems.Alike.{runs-alike}
 use Rattle.lags.proofs.Laws.{read-sure}
 use Rattle.moves.specs.Moved.{movedNet}
-use Rattle.retime.specs.Retime.{LeastLags, NarrowAt, BestAt, lagTable, Retimes}
+use Rattle.retime.specs.Retime.{LeastLags, lagTable, Retimes}
 use Rattle.retime.specs.Demand.{Startable, Asked, ComesBack, tableLag, Came}
 use Rattle.retime.specs.Theorems.{DemandFollows, LagsFit}
 use Rattle.netlist.proofs.Rows.{rows-at}
@@ -55,7 +55,7 @@ use Rattle.retime.proofs.theorems.Moved.{same-length, moved-reads, move
 -- ── Both texts run alike ────────────────────────────────────────────────────────────────────
 
 module _ (t : List ℕ) (net : Netlist) (r : ℕ → ℤ) (c : ℕ) (h : Reads t (value 0) net) (l : LeastLags net r) (narrow : NarrowAt net r) (b : BestAt net r c) where
-  ok : Sound gate (graphOf net) (regsOf net)
+  ok : SoundIn net
   ok = read-is-sound t net h
 
   says : Demand gate (graphOf net) (regsOf net) (delayOf net) (net .period)
@@ -65,16 +65,16 @@ module _ (t : List ℕ) (net : Netlist) (r : ℕ → ℤ) (c : ℕ) (h : Reads t
   start-carried ins y Y =
       let (x, X) = says .runs quiet in
       let legal = l .feasible .legal in
-      carried-any gate (graphOf net) (ok .wired) (regsOf net) (ok .no-loop) r legal (choiceOf (graphOf net) (regsOf net .count) r c) (b .carried) X (moved-circuit t net r c h legal quiet x X) Y
+      carried-any gate (graphOf net) (ok .wired) (regsOf net) (ok .no-loop) r legal (choiceAt net r c) (b .carried) X (moved-circuit t net r c h legal quiet x X) Y
 
   -- A trace of the moved netlist is one of the retimed registers, as these are the same; and that agrees with the original's at the pins (`same` of the theory's demand).
-  pins-agree : (ins x y : ℕ → ℕ → ℕ) → Trace gate (graphOf net) (regsOf net) ins x → Trace gate (graphOf net) (regsOf (movedNet net r c)) ins y
-      → (v k : ℕ) → v < net .nodes → Pin (graphOf net) v → y v k ≡ x v k
+  pins-agree : (ins x y : ℕ → ℕ → ℕ) → TraceIn net ins x → Trace gate (graphOf net) (regsOf (movedNet net r c)) ins y
+      → (v k : ℕ) → v < net .nodes → PinIn net v → y v k ≡ x v k
   pins-agree ins x y X Y v k hv p =
       let legal = l .feasible .legal in
-      let choice = choiceOf (graphOf net) (regsOf net .count) r c in
+      let choice = choiceAt net r c in
       let Z = new-trace gate (graphOf net) (ok .wired) (regsOf net) (ok .no-loop) r legal choice ins in
-      sym (unique gate (graphOf net) (ok .wired) (retimed gate (graphOf net) (regsOf net) r c) (regsOf (movedNet net r c)) (moved-regs t net r c h legal)
+      sym (unique gate (graphOf net) (ok .wired) (retimedAt net r c) (regsOf (movedNet net r c)) (moved-regs t net r c h legal)
       (new-no-loop gate (graphOf net) (ok .wired) (regsOf net) (ok .no-loop) r legal choice) Z Y (λ u i hu q. refl) v k hv)
       ∙ says .same r c (record { least = l; best = b }) ins x _ X Z v k hv p
 
@@ -165,10 +165,10 @@ demand-follows t out lags s out′ lags′ o = record {
 -- ── The bounds on lags ──────────────────────────────────────────────────────────────────────
 
 -- A short walk from an input to v has 511 edges at most, so 511 · 32 registers at most, and these are what a lag can take away.
-lag-down : (t : List ℕ) (net : Netlist) (r : ℕ → ℤ) → Reads t (value 0) net → Legal (graphOf net) (regsOf net .count) r → (v : ℕ) → v < net .nodes → down (r v) ≤ 16352
+lag-down : (t : List ℕ) (net : Netlist) (r : ℕ → ℤ) → Reads t (value 0) net → LegalAt net r → (v : ℕ) → v < net .nodes → down (r v) ≤ 16352
 lag-down t net r h legal v hv = go (decLe (graphOf net .kind v) 1) (decLt 0 (down (r v)))
   where
-    go : Dec (Pin (graphOf net) v) → Dec (0 < down (r v)) → down (r v) ≤ 16352
+    go : Dec (PinIn net v) → Dec (0 < down (r v)) → down (r v) ≤ 16352
     go (yes p) d = omega (arith, ap down (legal .pinned v hv p))
     go (no p) (no d) = omega arith
     go (no p) (yes d) =
@@ -184,7 +184,7 @@ lag-down t net r h legal v hv = go (decLe (graphOf net .kind v) 1) (decLt 0 (dow
           ap down start,
           no-up (r v) d,
           few-registers (regsOf net .count) 32 (λ e he. edge-fits _ _ _ _ _ _ (fit .edge e he) .2) q,
-          walk-shift (regsOf net .count) (newCount (graphOf net) (regsOf net .count) r) r (legal-shifts (graphOf net) (regsOf net .count) r legal) q,
+          walk-shift (regsOf net .count) (newCountAt net r) r (legal-shifts (graphOf net) (regsOf net .count) r legal) q,
         )
 
 -- No lag is above the number of chosen values (`lag-chosen`), and that is 24 at most.

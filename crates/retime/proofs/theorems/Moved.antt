@@ -11,17 +11,17 @@ use lib.IntN.{ℤ}
 use lib.ListN.{length}
 use Rattle.theory.specs.Graph.{Wired}
 use Rattle.theory.specs.inner.Registers.{SameRegs}
-use Rattle.theory.specs.Clock.{Trace}
-use Rattle.theory.specs.Lag.{Legal}
-use Rattle.theory.specs.Move.{Moved, move, choiceOf}
+use Rattle.theory.specs.Move.{Moved, move}
 use Rattle.theory.specs.Gate.{gate}
-use Rattle.theory.specs.Retimer.{Sound, retimed}
+use Rattle.theory.specs.Retimer.{Sound}
 use Rattle.theory.proofs.moves.Best.{choice-bit}
 use Rattle.theory.proofs.moves.Retime.{new-moved-any}
 use Rattle.theory.proofs.retimer.Kept.{sound-new}
 use Rattle.netlist.specs.declared.Netlist.{Netlist}
 use Rattle.netlist.specs.Answer.{value}
 use Rattle.netlist.specs.Net.{graphOf, regsOf}
+use Rattle.netlist.specs.Circuit.{TraceIn, choiceAt}
+use Rattle.netlist.specs.inner.Words.{LegalAt, retimedAt}
 use Rattle.netlist.specs.Read.{Reads}
 use Rattle.netlist.proofs.Run.{fit-rows}
 use Rattle.netlist.proofs.Written.{text-length}
@@ -38,23 +38,23 @@ unfolding movedNet
 same-length t net r c h =
     text-length (movedNet net r c) ∙ sym (text-length net) ∙ ap length (sym (lines-fact t net .0 (reads-value h .0) .2))
 
-module _ (t : List ℕ) (net : Netlist) (r : ℕ → ℤ) (c : ℕ) (h : Reads t (value 0) net) (legal : Legal (graphOf net) (regsOf net .count) r) where
-  moved-sound : Sound gate (graphOf net) (retimed gate (graphOf net) (regsOf net) r c)
+module _ (t : List ℕ) (net : Netlist) (r : ℕ → ℤ) (c : ℕ) (h : Reads t (value 0) net) (legal : LegalAt net r) where
+  moved-sound : Sound gate (graphOf net) (retimedAt net r c)
   moved-sound =
-      sound-new gate (graphOf net) (regsOf net) (read-is-sound t net h) r legal (choiceOf (graphOf net) (regsOf net .count) r c) (choice-bit gate (graphOf net) (regsOf net) r c)
+      sound-new gate (graphOf net) (regsOf net) (read-is-sound t net h) r legal (choiceAt net r c) (choice-bit gate (graphOf net) (regsOf net) r c)
 
-  pub moved-regs : SameRegs (graphOf net) (retimed gate (graphOf net) (regsOf net) r c) (regsOf (movedNet net r c))
+  pub moved-regs : SameRegs (graphOf net) (retimedAt net r c) (regsOf (movedNet net r c))
   unfolding movedNet
   moved-regs =
-      with-regs net (retimed gate (graphOf net) (regsOf net) r c) (fit-rows net (lines-fact t net .0 (reads-value h .0) .0) .1) (moved-sound .bits .starts)
+      with-regs net (retimedAt net r c) (fit-rows net (lines-fact t net .0 (reads-value h .0) .0) .1) (moved-sound .bits .starts)
 
-  pub moved-circuit : (ins x : ℕ → ℕ → ℕ) → Trace gate (graphOf net) (regsOf net) ins x
-      → Moved (graphOf net) (regsOf net) (regsOf (movedNet net r c)) r (choiceOf (graphOf net) (regsOf net .count) r c) x
+  pub moved-circuit : (ins x : ℕ → ℕ → ℕ) → TraceIn net ins x
+      → Moved (graphOf net) (regsOf net) (regsOf (movedNet net r c)) r (choiceAt net r c) x
   moved-circuit ins x X =
       let ok = read-is-sound t net h in
       let same = moved-regs in
-      let m = new-moved-any gate (graphOf net) (ok .wired) (regsOf net) (ok .no-loop) r legal (choiceOf (graphOf net) (regsOf net .count) r c) X in
-      let below : (e i : ℕ) → e < net .edges → i < regsOf (movedNet net r c) .count e → i < retimed gate (graphOf net) (regsOf net) r c .count e =
+      let m = new-moved-any gate (graphOf net) (ok .wired) (regsOf net) (ok .no-loop) r legal (choiceAt net r c) X in
+      let below : (e i : ℕ) → e < net .edges → i < regsOf (movedNet net r c) .count e → i < retimedAt net r c .count e =
       λ e i he hi. omega (arith, same .counts e he) in
       record {
         counts = λ e he. omega (arith, m .counts e he, same .counts e he);
@@ -66,7 +66,7 @@ module _ (t : List ℕ) (net : Netlist) (r : ℕ → ℤ) (c : ℕ) (h : Reads t
 -- A sound netlist moved by legal lags is sound (`sound-new`), and no count is above 32.
 pub moved-reads : MovedReads
 unfolding movedNet move
-moved-reads t net r c h legal narrow = with-reads t net (retimed gate (graphOf net) (regsOf net) r c) h (moved-sound t net r c h legal) narrow
+moved-reads t net r c h legal narrow = with-reads t net (retimedAt net r c) h (moved-sound t net r c h legal) narrow
 
 pub moved-alike : (net : Netlist) (r q : ℕ → ℤ) (c : ℕ) → Wired (graphOf net) → ((v : ℕ) → v < net .nodes → r v ≡ q v) → movedNet net r c ≡ movedNet net q c
 unfolding movedNet

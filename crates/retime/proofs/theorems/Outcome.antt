@@ -9,7 +9,6 @@ use mathlib.Core.List.{List, _++_}
 use lib.IntN.{ℤ}
 use lib.ListN.{length, drop}
 use Rattle.theory.specs.Gate.{gate}
-use Rattle.theory.specs.Retimer.{Sound}
 use Rattle.theory.specs.inner.Demand.{Verdict, no-retiming, too-wide, too-many, no-start, answered}
 use Rattle.theory.proofs.least.Exists.{least-unique}
 use Rattle.theory.proofs.moves.Best.{best-unique}
@@ -17,6 +16,7 @@ use Rattle.theory.proofs.retimer.Demand.{demand}
 use Rattle.netlist.specs.declared.Netlist.{Netlist}
 use Rattle.netlist.specs.Answer.{Said, value, refused, holds}
 use Rattle.netlist.specs.Net.{graphOf, regsOf, delayOf}
+use Rattle.netlist.specs.Circuit.{SoundIn}
 use Rattle.netlist.specs.Read.{Reads}
 use Rattle.netlist.specs.Write.{textOf}
 use Rattle.netlist.proofs.theorems.Sound.{read-is-sound}
@@ -33,7 +33,7 @@ use Rattle.retime.proofs.theorems.Refusals.{unread-fact, nothing-touche
 
 -- ── One only ────────────────────────────────────────────────────────────────────────────────
 
-module _ (t out : List ℕ) (lags : List ℤ) (net : Netlist) (ok : Sound gate (graphOf net) (regsOf net)) (r q : ℕ → ℤ) (c d : ℕ) where
+module _ (t out : List ℕ) (lags : List ℤ) (net : Netlist) (ok : SoundIn net) (r q : ℕ → ℤ) (c d : ℕ) where
   -- The least lags are one at each node, so the smallest number is one, and the netlist moved by them.
   one-left : (s : Said) → FromShort t out lags net r c s → FromShort t out lags net q d s
       → (holds s (textOf (movedNet net r c)) out ≡ holds s (textOf (movedNet net q d)) out) × (holds s (lagTable net r) lags ≡ holds s (lagTable net q) lags)

@@ -11,14 +11,14 @@ use Rattle.netlist.specs.Answer.{Said, value, refused, whole, atEdge, holds}
 use Rattle.netlist.specs.Order.{past}
 use Rattle.netlist.specs.Read.{Reads}
 use Rattle.netlist.specs.Write.{textOf}
-use Rattle.netlist.proofs.Order.{later, given-one}
+use Rattle.netlist.proofs.Order.{decides, later, given-one, stopped}
 use Rattle.netlist.proofs.theorems.One.{one-reading}
 use Rattle.netlist.proofs.theorems.Sound.{read-is-sound}
 use Rattle.moves.specs.Moved.{movedNet}
 use Rattle.retime.specs.Retime.{LeastLags, lagTable, MovedBy, Room}
 use Rattle.retime.specs.Theorems.{RetimeFacts, RetimeRefusals, UnreadFact, NothingTouched}
 use Rattle.retime.specs.inner.Leaves.{FromShort}
-use Rattle.retime.proofs.Order.{decides, stopped, no-short, no-none, no-wide, no-many, lowest-one, Fact, told, moved-at}
+use Rattle.retime.proofs.Order.{no-short, no-none, no-wide, no-many, lowest-one, Fact, told, moved-at}
 use Rattle.retime.proofs.Call.{left-of}
 
 module _ (t out : List ℕ) (lags : List ℤ) (s : Said) (net : Netlist) (h : Reads t (value 0) net) (r : ℕ → ℤ) (c : ℕ) (row : FromShort t out lags net r c s) where

@@ -8,12 +8,12 @@ use mathlib.Core.Bool.{true}
 use mathlib.Core.List.{List, [], _∷_}
 use lib.Dec.{eqb}
 use lib.ListN.{length, getD}
-use Rattle.theory.specs.Clock.{gather, Trace}
-use Rattle.theory.specs.Gate.{gate}
+use Rattle.theory.specs.Clock.{gather}
 use Rattle.theory.proofs.clocks.Seen.{gather-like}
 use Rattle.netlist.specs.declared.Netlist.{Netlist}
 use Rattle.netlist.specs.Answer.{Said, value, refused, holds}
-use Rattle.netlist.specs.Net.{graphOf, regsOf}
+use Rattle.netlist.specs.Net.{graphOf}
+use Rattle.netlist.specs.Circuit.{TraceIn}
 use Rattle.netlist.specs.Read.{Reads}
 use Rattle.rules.specs.Rules.{every}
 use Rattle.netlist.proofs.Rows.{joined-same}
@@ -39,7 +39,7 @@ module _ (t t′ : List ℕ) (net net′ : Netlist) (r : Reads t (value 0) net) 
   says-like vectors room s =
       subst₂ (λ i o. Row (value 0) (every (eqb (length vectors % i) 0 ∷ onlyBits vectors ∷ [])) (length vectors / i * o) room s) (all-like 0) (all-like 1)
 
-  module _ (agree : (ins x y : ℕ → ℕ → ℕ) → Trace gate (graphOf net) (regsOf net) ins x → Trace gate (graphOf net′) (regsOf net′) ins y
+  module _ (agree : (ins x y : ℕ → ℕ → ℕ) → TraceIn net ins x → TraceIn net′ ins y
       → (v k : ℕ) → v < net .nodes → getD (net .kind) v 0 ≡ 1 → x v k ≡ y v k) (vectors : List ℕ) where
     byte-like : (v k : ℕ) → v < net .nodes → byteAt net vectors v k ≡ byteAt net′ vectors v k
     byte-like v k h = ap₂ (λ i b. getD vectors (k * i + b) 0) (all-like 0) (before-like 0 v (omega arith))
@@ -51,7 +51,7 @@ module _ (t t′ : List ℕ) (net net′ : Netlist) (r : Reads t (value 0) net) 
         let Y = trace-exists t′ net′ (byteAt net vectors) r′ in
         let x = X .0 in
         let y = Y .0 in
-        let Y′ : Trace gate (graphOf net′) (regsOf net′) (byteAt net′ vectors) y =
+        let Y′ : TraceIn net′ (byteAt net′ vectors) y =
         record { at-input = λ v k h q. Y .1 .at-input v k h q ∙ byte-like v k (omega arith); at-gate = Y .1 .at-gate } in
         let out : (k : ℕ) → gather (graphOf net .kind) (λ v. x v k) 1 (net .nodes) ≡ gather (graphOf net′ .kind) (λ v. y v k) 1 (net′ .nodes) =
         λ k. gather-like (graphOf net .kind) (graphOf net′ .kind) (λ v. x v k) (λ v. y v k) 1 (net .nodes) kinds (λ v h q. agree (byteAt net vectors) x y (X .1) (Y .1) v k h q)

@@ -13,8 +13,7 @@ use mathlib.Core.List.{List, _++_}
 use lib.ListN.{getD, take, drop}
 use lib.Seq.{getD-take, getD-drop, drop-drop}
 use Rattle.theory.specs.Graph.{Wired}
-use Rattle.theory.specs.Walk.{Loop}
-use Rattle.theory.specs.Clock.{gather, Trace, value as valueOf}
+use Rattle.theory.specs.Clock.{gather, value as valueOf}
 use Rattle.theory.specs.inner.Stepping.{Stepping}
 use Rattle.theory.specs.Gate.{gate}
 use Rattle.theory.proofs.clocks.Seen.{gather-same}
@@ -24,6 +23,7 @@ use Rattle.theory.proofs.clocks.Step.{steps-trace}
 use Rattle.netlist.specs.declared.Netlist.{Netlist}
 use Rattle.graph.specs.Columns.{bit}
 use Rattle.netlist.specs.Net.{graphOf, regsOf}
+use Rattle.netlist.specs.Circuit.{LoopIn, TraceIn}
 use Rattle.netlist.specs.Write.{joined}
 use Rattle.netlist.proofs.Rows.{joined-same}
 use Rattle.netlist.proofs.theorems.Lines.{lines-fact}
@@ -70,7 +70,7 @@ clocks-joined net vectors (suc n) k =
     ∙ clocks-joined net vectors n (suc k) ∙ joined-same (λ j. out (suc k + j)) (λ j. out (k + suc j)) n (λ j l. ap out (rest j)))
     ∙ sym (joined-first (λ j. out (k + j)) n)
 
-module _ (net : Netlist) (wired : Wired (graphOf net)) (no-loop : ¬ Loop (graphOf net) (regsOf net .count)) (starts : Fits net (net .start))
+module _ (net : Netlist) (wired : Wired (graphOf net)) (no-loop : ¬ LoopIn net) (starts : Fits net (net .start))
     (vectors : List ℕ) (b : onlyBits vectors ≡ true) where
   vector-bits : (k : ℕ) → onlyBits (vectorAt net vectors k) ≡ true
   vector-bits k = bits-take (inputs net) (drop (k * inputs net) vectors) (bits-drop (k * inputs net) vectors b)
@@ -100,7 +100,7 @@ module _ (net : Netlist) (wired : Wired (graphOf net)) (no-loop : ¬ Loop (graph
   }
 
   -- Each clock puts out the values of the steps' trace, which is the only one.
-  clocks-trace : (x : ℕ → ℕ → ℕ) → Trace gate (graphOf net) (regsOf net) (byteAt net vectors) x
+  clocks-trace : (x : ℕ → ℕ → ℕ) → TraceIn net (byteAt net vectors) x
       → (n : ℕ) → clocksFrom net n (net .start) vectors ≡ joined (λ k. gather (graphOf net .kind) (λ v. x v k) 1 (net .nodes)) n
   unfolding wordsAt outputValues valueAt
   clocks-trace x X n =

@@ -17,16 +17,16 @@ use lib.Seq.{take-all, drop-at}
 use Rattle.frame.specs.Frame.{line, frameAt, number, numberAt, bytesOf}
 use Rattle.frame.proofs.Numbers.{number-append, length-bytes}
 use Rattle.theory.specs.Graph.{Wired}
-use Rattle.theory.specs.Walk.{Loop}
 use Rattle.netlist.specs.declared.Netlist.{Netlist}
 use Rattle.netlist.specs.Answer.{Said, value, refused, holds}
 use Rattle.netlist.specs.Order.{here}
-use Rattle.netlist.specs.Net.{graphOf, regsOf}
+use Rattle.netlist.specs.Net.{graphOf}
+use Rattle.netlist.specs.Circuit.{LoopIn}
 use Rattle.netlist.specs.Read.{Reads}
 use Rattle.rules.specs.Rules.{every}
 use Rattle.netlist.specs.Write.{headLine, nodeLine, edgeLine, joined, textOf}
 use Rattle.netlist.proofs.Fits.{head-fits}
-use Rattle.netlist.proofs.Order.{first, stops-one}
+use Rattle.netlist.proofs.Order.{stopped}
 use Rattle.netlist.proofs.Fields.{headBytes, four-numbers, four-frame}
 use Rattle.netlist.proofs.theorems.Lines.{lines-fact}
 use Rattle.netlist.proofs.theorems.Sound.{reads-value, read-is-sound}
@@ -94,7 +94,7 @@ record Alike (net : Netlist) (n : ℕ) (m k : Machine) (vector old : List ℕ) (
   past : (j : Machine) → drop n (machineAfter s net j vector .words) ≡ drop n (j .words)
 
 module _ (n : ℕ) (m k : Machine) (agree : (e : ℕ) → e < n → getD (m .words) e 0 ≡ getD (k .words) e 0) (vector old : List ℕ) where
-  module _ (net : Netlist) (wired : Wired (graphOf net)) (no-loop : ¬ Loop (graphOf net) (regsOf net .count)) (few : net .edges ≤ n) where
+  module _ (net : Netlist) (wired : Wired (graphOf net)) (no-loop : ¬ LoopIn net) (few : net .edges ≤ n) where
     below : (e : ℕ) → e < net .edges → getD (m .words) e 0 ≡ getD (k .words) e 0
     below e h = agree e (omega arith)
 
@@ -120,12 +120,11 @@ module _ (n : ℕ) (m k : Machine) (agree : (e : ℕ) → e < n → getD (m .wor
   alike-read : (net back : Netlist) (checked s : Said) → net .edges ≡ n → Reads (textOf net) checked back
       → Row checked (stepFits back (m .words) vector) (outputs back) (length old) s → Alike back n m k vector old checked s
   alike-read net back (value i) s e r q =
-      let z : i ≡ 0 = reads-zero r in
-      let r′ = subst (λ j. Reads (textOf net) (value j) back) z r in
+      let r′ = reads-zero r in
       let f = read-is-sound (textOf net) back r′ in
       alike back (f .wired) (f .no-loop) (omega (arith, edges-read net back r′)) i s
   alike-read net back (refused a b c) s e r q =
-      let stop : s ≡ refused a b c = first (stops-one (refused a b c)) s (refused a b c) refl q in
+      let stop : s ≡ refused a b c = stopped refl q in
       subst (Alike back n m k vector old (refused a b c)) (sym stop) (record { answer = λ x. here refl; buffer = refl; words = agree; past = λ j. refl })
 
 -- The two records have one text (`same-text`), so one netlist is checked and stepped.

@@ -9,10 +9,9 @@ use mathlib.Core.List.{List}
 use Prim.Native.Nat.{ℕ, zero, suc, _*_, _≤_}
 use lib.ListN.{length, take, drop}
 use lib.Seq.{sets}
-use Rattle.theory.specs.Walk.{Loop}
 use Rattle.netlist.specs.declared.Netlist.{Netlist}
-use Rattle.netlist.specs.Net.{graphOf, regsOf}
-use Rattle.netlist.specs.Read.{All, FanInFits}
+use Rattle.netlist.specs.Read.{FanInsFit}
+use Rattle.netlist.specs.Circuit.{LoopIn}
 use Rattle.netlist.specs.Theorems.{Fit}
 use Rattle.simulate.specs.Clock.{inputs, outputs, wordsAfter}
 use Rattle.simulate.specs.Step.{onlyBits, wordsFit}
@@ -20,8 +19,8 @@ use Rattle.simulate.specs.Run.{clocksFrom}
 
 pub record Steppable (net : Netlist) : Type 0 where
   pub fit : Fit net
-  pub fans : All (FanInFits (graphOf net)) (net .nodes)
-  pub no-loop : ¬ Loop (graphOf net) (regsOf net .count)
+  pub fans : FanInsFit net
+  pub no-loop : ¬ LoopIn net
 
 pub record Runnable (net : Netlist) (n : ℕ) (words vectors out : List ℕ) : Type 0 where
   pub steppable : Steppable net

@@ -1,50 +1,55 @@
 -- The parts of one clock, on columns: node v's signal stands at v, what edge e shows from its register at 512 + e. All signals are bits.
---   among               how many nodes below v have the kind k
---   Entered             the inputs' signals are set
---   RegistersShown      the registers' signals are set
---   SignalsSet          both are
---   shiftedAt, shiftedTo  a word moved on; the first n words moved on, the others as they were
---   Movable             what moving the words on asks of the columns
+--   Within list n size  the first n places of the list hold numbers below size
+--   written place f n l the list l, with f i stored at place i for each i below n in turn
+--   withInputs          the signals, with a vector's bytes at the listed nodes
+--   withRegisters       so with what the listed edges show from their registers
+--   withOutputs         a buffer, with the signals of the listed nodes from a place on
+--   shiftedAt, withShifts   an edge's word moved on; the words, with those of the listed edges moved on
+--   EdgeMovable, Movable    what moving on one word asks of the columns; so of the listed edges, none of which is listed twice
 use mathlib.Core.Path.{_≡_}
-use mathlib.Core.List.{List, [], _∷_, _++_}
-use Prim.Native.Nat.{ℕ, _+_, _^_, _<_, _≤_}
-use lib.ListN.{length, drop}
-use Rattle.theory.specs.Clock.{gather}
-use Rattle.graph.specs.Columns.{at, bit}
-use Rattle.gates.specs.inner.Gates.{AllBits}
-use Rattle.netlist.specs.Write.{joined}
+use mathlib.Core.List.{List}
+use Prim.Native.Nat.{ℕ, zero, suc, _+_, _%_, _^_, _<_, _≤_}
+use lib.ListN.{length, set}
+use Rattle.graph.specs.Columns.{at}
 use Rattle.simulate.specs.Clock.{shifted}
+
+pub record Within (list : List ℕ) (n size : ℕ) : Type 0 where
+  pub rows : n ≤ length list
+  pub below : (i : ℕ) → i < n → at list i < size
+
+unfoldable pub written : (ℕ → ℕ) → (ℕ → ℕ) → ℕ → List ℕ → List ℕ
+written place f zero l = l
+written place f (suc n) l = set (written place f n l) (place n) (f n)
 
 -- ── The pins and the registers ──────────────────────────────────────────────────────────────
 
-abbrev pub among : List ℕ → ℕ → ℕ → ℕ
-among kind k v = length (gather (at kind) (λ u. u) k v)
+abbrev pub withInputs : List ℕ → ℕ → List ℕ → ℕ → List ℕ → List ℕ
+withInputs inputs n vectors at0 sig = written (at inputs) (λ i. at vectors (at0 + i)) n sig
 
-pub record Entered (kind : List ℕ) (nodes : ℕ) (vectors : List ℕ) (at0 : ℕ) (sig sig′ : List ℕ) : Type 0 where
-  pub inputs : (v : ℕ) → v < nodes → at kind v ≡ 0 → at sig′ v ≡ at vectors (at0 + among kind 0 v)
-  pub bits : AllBits vectors → AllBits sig → AllBits sig′
+abbrev pub withRegisters : List ℕ → ℕ → List ℕ → List ℕ → List ℕ
+withRegisters registers n words sig = written (λ i. 512 + at registers i) (λ i. at words (at registers i) % 2) n sig
 
-pub record RegistersShown (words : List ℕ) (edges : ℕ) (sig sig′ : List ℕ) : Type 0 where
-  pub shows : (e : ℕ) → e < edges → at sig′ (512 + e) ≡ bit (at words e) 0
-  pub stays : (v : ℕ) → v < 512 → at sig′ v ≡ at sig v
-  pub bits : AllBits sig → AllBits sig′
-
-pub record SignalsSet (kind : List ℕ) (nodes : ℕ) (words : List ℕ) (edges : ℕ) (vectors : List ℕ) (at0 : ℕ) (sig sig′ : List ℕ) : Type 0 where
-  pub enters : Entered kind nodes vectors at0 sig sig′
-  pub shows : (e : ℕ) → e < edges → at sig′ (512 + e) ≡ bit (at words e) 0
+abbrev pub withOutputs : List ℕ → ℕ → List ℕ → ℕ → List ℕ → List ℕ
+withOutputs outputs n sig at0 out = written (λ i. at0 + i) (λ i. at sig (at outputs i)) n out
 
 -- ── The words ───────────────────────────────────────────────────────────────────────────────
 
-abbrev pub shiftedAt : List ℕ → List ℕ → List ℕ → List ℕ → ℕ → List ℕ
-shiftedAt from count sig words e = shifted (at count e) (at words e) (at sig (at from e)) ∷ []
+abbrev pub shiftedAt : List ℕ → List ℕ → List ℕ → List ℕ → ℕ → ℕ
+shiftedAt from count sig words e = shifted (at count e) (at words e) (at sig (at from e))
 
-unfoldable pub shiftedTo : List ℕ → List ℕ → List ℕ → List ℕ → ℕ → List ℕ
-shiftedTo from count sig words n = joined (shiftedAt from count sig words) n ++ drop n words
+abbrev pub withShifts : List ℕ → ℕ → List ℕ → List ℕ → List ℕ → List ℕ → List ℕ
+withShifts registers n from count sig words = written (at registers) (λ i. shiftedAt from count sig words (at registers i)) n words
 
-pub record Movable (from count : List ℕ) (edges : ℕ) (words : List ℕ) (size : ℕ) : Type 0 where
-  pub in-from : edges ≤ length from
-  pub in-count : edges ≤ length count
-  pub in-words : edges ≤ length words
-  pub ends : (e : ℕ) → e < edges → at from e < size
-  pub counts : (e : ℕ) → e < edges → at count e ≤ 32
-  pub fits : (e : ℕ) → e < edges → at words e < 2 ^ at count e
+pub record EdgeMovable (from count words : List ℕ) (size e : ℕ) : Type 0 where
+  pub in-from : e < length from
+  pub in-count : e < length count
+  pub in-words : e < length words
+  pub source : at from e < size
+  pub some : 0 < at count e
+  pub few : at count e ≤ 32
+  pub fits : at words e < 2 ^ at count e
+
+pub record Movable (registers : List ℕ) (n : ℕ) (from count words : List ℕ) (size : ℕ) : Type 0 where
+  pub rows : n ≤ length registers
+  pub apart : (i j : ℕ) → i < n → j < n → at registers i ≡ at registers j → i ≡ j
+  pub each : (i : ℕ) → i < n → EdgeMovable from count words size (at registers i)

@@ -8,6 +8,7 @@
 --   Slots               the slots from place lo up to place hi are those of the edges there
 --   Puts                they are put there, and nothing else is
 --   SlotsOf             the slots are right at the places of the first n nodes of a list
+--   further c           a row further, round the ring
 --   EdgeRows, Slotable, SlotableOf    what finding the slots asks of the columns
 use mathlib.Core.Path.{_≡_}
 use mathlib.Core.Bool.{cond}
@@ -59,6 +60,9 @@ Slots ins from count start s lo hi slots = (k : ℕ) → lo ≤ k → k < hi →
 pub record Puts (ins from count start : List ℕ) (s lo hi : ℕ) (old new : List ℕ) : Type 0 where
   pub done : Slots ins from count start s lo hi new
   pub rest : (k : ℕ) → (k < lo) ⊎ (hi ≤ k) → at new k ≡ at old k
+
+abbrev pub further : ℕ → ℕ
+further c = (c % 32768 + 512) % 32768
 
 -- The edges that enter node v stand from place first(v) up to first(v + 1).
 abbrev pub SlotsOf : List ℕ → ℕ → List ℕ → List ℕ → List ℕ → List ℕ → List ℕ → ℕ → List ℕ → Type 0

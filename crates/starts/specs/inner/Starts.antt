@@ -4,18 +4,16 @@
 --   startsAt            an edge's new start values, as a word
 use mathlib.Core.List.{List}
 use Prim.Native.Nat.{ℕ, _+_, _-_}
-use Rattle.theory.specs.Gate.{gate}
-use Rattle.theory.specs.Retimer.{retimed}
 use Rattle.graph.specs.Columns.{at}
 use Rattle.netlist.specs.declared.Netlist.{Netlist}
-use Rattle.netlist.specs.Net.{graphOf, regsOf}
+use Rattle.netlist.specs.inner.Words.{retimedAt}
 use Rattle.moves.specs.Moved.{wordOf}
 use Rattle.moves.specs.inner.Labels.{lagsOf}
 use Rattle.starts.specs.inner.Ring.{slotOf}
 
 -- Of the netlist moved by the labels' lags and the choice c.
 abbrev pub startAt : Netlist → List ℕ → ℕ → ℕ → ℕ → ℕ
-startAt net lab c e t = retimed gate (graphOf net) (regsOf net) (lagsOf lab) c .start e t
+startAt net lab c e t = retimedAt net (lagsOf lab) c .start e t
 
 -- In clock t − r(v).
 abbrev pub shownSlot : ℕ → ℕ → ℕ → ℕ → ℕ → ℕ

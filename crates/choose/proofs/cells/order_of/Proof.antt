@@ -19,11 +19,11 @@ bytes-of-requires c κs =
     let s = c .before .before in
     (low-edges (s .args .t1) (now (s .args .lab)) (s .pre .0 .0), s .pre .0 .2, s .pre .1 .0)
 
-slice-aggregate-by-rank : tie.Need-slice-aggregate-by-rank
-slice-aggregate-by-rank c = search needs
+slice-aggregate-evaluation-order : tie.Need-slice-aggregate-evaluation-order
+slice-aggregate-evaluation-order c = search needs
 
-by-rank-requires : tie.Need-by-rank-requires
-by-rank-requires c κs =
+evaluation-order-requires : tie.Need-evaluation-order-requires
+evaluation-order-requires c κs =
     let s = c .before .before .before .before .before .before .before .before .before in
     let net = s .args .t1 in (
       (laid net (s .pre .0 .0 .fit) (search needs) (search needs), omega (arith, low-edges net (now (s .args .lab)) (s .pre .0 .0))),
@@ -34,7 +34,7 @@ returns : tie.Need-returns
 returns c =
     let s = c .before .before .before .before .before .before .before .before .before .before in
     let net = s .args .t1 in
-    ordered-counts (net .nodes) (net .edges) (net .from) (net .to) _ (now (s .args .counts)) _ (c .before .before .before .before .before .before .before .bytes-of .ensures .rows) (c .by-rank .ensures)
+    ordered-counts (net .nodes) (net .edges) (net .from) (net .to) _ (now (s .args .counts)) _ (c .before .before .before .before .before .before .before .bytes-of .ensures .rows) (c .evaluation-order .ensures)
 
 pub order-of-spec : {M : Type 1} → statement M
 order-of-spec =
@@ -43,6 +43,6 @@ order-of-spec =
     cast-nodes
     cast-edges
     bytes-of-requires
-    slice-aggregate-by-rank
-    by-rank-requires
+    slice-aggregate-evaluation-order
+    evaluation-order-requires
     returns)

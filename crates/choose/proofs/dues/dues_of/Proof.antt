@@ -34,7 +34,7 @@ edges-along-requires c κs =
     ((s .pre .0 .1 .few, s .pre .0 .1 .rows, s .pre .0 .1 .nodes-only), (low-edges _ _ (s .pre .0 .0), omega (arith, low-edges _ _ (s .pre .0 .0)), from-node _ _ (s .pre .0 .0)))
 
 top-of-requires : tie.Need-top-of-requires Inv-loop μ-loop
-top-of-requires c κs = let s = c .before .before .before .before .before .before .before .before .before in (low-nodes _ _ (s .pre .0 .0), s .pre .0 .0 .rows, s .pre .0 .2 .low)
+top-of-requires c κs = let s = c .before .before .before .before .before .before .before .before .before in (low-nodes _ _ (s .pre .0 .0), s .pre .0 .0 .rows, record { few = omega arith; low = s .pre .0 .2 .low })
 
 slice-write-begin : tie.Need-slice-write-begin Inv-loop μ-loop
 slice-write-begin c = search needs
@@ -73,12 +73,12 @@ put-run-requires c κs =
     let t = turn (c .before .before .before) in
     let s = start t in
     let l = t .before .loop in
-    let low : l .low < 24 = omega (arith, c .before .before .before .before .loop-test .taken, c .before .before .before .before .before .before .top-of .ensures .0) in
+    let low : l .low < 24 = omega (arith, c .before .before .before .before .loop-test .taken, c .before .before .before .before .before .before .top-of .ensures .few) in
     let high = c .before .before .before .least .ensures in
     ((s .pre .0 .0, c .before .before .before .before .before .before .before .edges-along .ensures, s .pre .0 .2), ((omega (arith, low, high), omega (arith, low, high), omega (arith, l .inv .3 .to-15 low), search needs, l .inv .1, l .inv .2), l .inv .4))
 
 loop-less : tie.Need-loop-less Inv-loop μ-loop
-loop-less c = omega (arith, c .before .before .before .before .before .before .before .before .before .loop-test .taken, c .before .before .before .before .before .before .before .before .before .before .before .top-of .ensures .0, c .before .before .before .before .before .before .before .before .least .ensures)
+loop-less c = omega (arith, c .before .before .before .before .before .before .before .before .before .loop-test .taken, c .before .before .before .before .before .before .before .before .before .before .before .top-of .ensures .few, c .before .before .before .before .before .before .before .before .least .ensures)
 
 loop-again : tie.Need-loop-again Inv-loop μ-loop
 loop-again c =
@@ -87,7 +87,7 @@ loop-again c =
     let l = t .before .loop in
     let r = c .before .before .before .before .put-run in
     let high = c .before .before .before .before .before .before .before .before .least .ensures in
-    let low : l .low < 24 = omega (arith, c .before .before .before .before .before .before .before .before .before .loop-test .taken, c .before .before .before .before .before .before .before .before .before .before .before .top-of .ensures .0) in (
+    let low : l .low < 24 = omega (arith, c .before .before .before .before .before .before .before .before .before .loop-test .taken, c .before .before .before .before .before .before .before .before .before .before .before .top-of .ensures .few) in (
       omega (arith, low, high),
       r .kept .1 .1 .1 .1 .1 .1 .1 .0 ∙ l .inv .1,
       r .kept .1 .1 .1 .1 .1 .1 .1 .1 .0 ∙ l .inv .2,
@@ -112,7 +112,7 @@ returns c =
     let top : c .before .before .top-of .result ≤ l .low = omega arith in (
       owes-all net lag (now (a .id)) _ (l .due) (l .begin) (l .low) (l .rows) _ (l .inv .4) 12288 (s .pre .0 .2) (from-node _ _ (s .pre .0 .0)) (l .inv .0) (omega (arith, in-rows, l .inv .2)) (omega (arith, l .inv .1)),
       dues-all net lag (now (a .id)) _ (l .due) (l .begin) (l .low) (l .rows) _ (l .inv .4) (c .before .before .before .edges-along .ensures)
-          (λ e h. omega (arith, top, c .before .before .top-of .ensures .1 (at (net .from) e) (from-node _ _ (s .pre .0 .0) e h))),
+          (λ e h. omega (arith, top, c .before .before .top-of .ensures .low (at (net .from) e) (from-node _ _ (s .pre .0 .0) e h))),
     )
 
 pub dues-of-spec : {M : Type 1} → statement M

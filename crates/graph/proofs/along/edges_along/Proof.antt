@@ -2,9 +2,8 @@
 use native.Mathlib.Omega.{arith}
 use borrow.Author.Needs.{needs}
 use denote.Ref.{now}
-use lib.ListN.{replicate}
 use Rattle.graph.specs.Columns.{at}
-use Rattle.graph.proofs.Edges.{along-whole}
+use Rattle.graph.proofs.ByNode.{sorts-each}
 use Rattle.graph.proofs.along.edges_along.Statement.{statement}
 use Rattle.graph.proofs.along.edges_along.Tie as tie
 
@@ -34,7 +33,7 @@ returns c =
     let k = c .before .before .before .before .before .before in
     let p = k .before .before in
     let s = p .before .before .before in
-    along-whole (k .place-keys .result) _ _ (replicate 1024 0) (s .args .edges) (s .args .nodes)
+    sorts-each (k .place-keys .result) (s .args .nodes) (s .args .edges)
     (λ e h. rw (k .place-keys .ensures e h) (p .places-of .ensures (at (now (s .args .from)) e) (s .pre .1 .2 e h))) (omega arith) (c .before .before .sort-by .ensures)
 
 pub edges-along-spec : {M : Type 1} → statement M

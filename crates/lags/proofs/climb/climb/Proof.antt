@@ -7,7 +7,8 @@ use denote.Ref.{now}
 use lib.ListN.{length}
 use borrow.Author.Needs.{needs}
 use Rattle.graph.proofs.Answers.{same-at}
-use Rattle.netlist.proofs.Lowest.{few, told-yes, told-no}
+use Rattle.netlist.proofs.Run.{fit-rows}
+use Rattle.netlist.proofs.Lowest.{told-yes, told-no}
 use Rattle.netlist.proofs.Fits.{clash}
 use Rattle.lags.specs.declared.climb.Swept.{Swept}
 use Rattle.lags.specs.declared.climb.Swept.the-variants.{Still}
@@ -17,10 +18,10 @@ use Rattle.lags.proofs.climb.climb.Statement.{statement}
 use Rattle.lags.proofs.climb.climb.Tie as tie
 
 abbrev Inv-loop : tie.InvT-loop
-Inv-loop net ins first order delay period nodes mark₀ sweeps₀ mark sweeps = (length mark ≡ 512) × (sweeps ≤ 256) × Marked net period mark
+Inv-loop net ins first order delay period nodes mark₀ sweeps₀ mark sweeps = (length mark ≡ 512) × (sweeps ≤ 64) × Marked net period mark
 
 abbrev μ-loop : tie.MeasureT-loop
-μ-loop net ins first order delay period nodes mark₀ sweeps₀ mark sweeps = 256 - sweeps
+μ-loop net ins first order delay period nodes mark₀ sweeps₀ mark sweeps = 64 - sweeps
 
 -- What the sweep leaves, by what it says.
 abbrev Left : tie.After-sweep Inv-loop μ-loop → Swept → Type 0
@@ -33,7 +34,7 @@ cast-nodes : tie.Need-cast-nodes Inv-loop μ-loop
 cast-nodes c = search needs
 
 any-above-requires : tie.Need-any-above-requires Inv-loop μ-loop
-any-above-requires c κs = c .before .before .before .before .before .pre .delay-rows
+any-above-requires c κs = c .before .before .before .before .before .pre .0 .delay-rows
 
 without-requires : tie.Need-without-requires Inv-loop μ-loop
 without-requires c κs = search needs
@@ -41,19 +42,19 @@ without-requires c κs = search needs
 returns : tie.Need-returns Inv-loop μ-loop
 returns c =
     let s = c .before .before .before .before .before .before .before .before in
-    λ _. climb-none (s .args .net) (s .args .period) (s .pre .sure) _ (c .without .ensures .1) (c .without .ensures .2) (climb-slow (s .pre) (told-yes _ (c .before .before .any-above .ensures) (c .before .if1 .taken)))
+    λ _. climb-none (s .args .net) (s .args .period) (s .pre .0 .sure) _ (c .without .ensures .1) (c .without .ensures .2) (climb-slow (s .pre .0) (told-yes _ (c .before .before .any-above .ensures) (c .before .if1 .taken)))
 
 loop-holds : tie.Need-loop-holds Inv-loop μ-loop
 loop-holds c =
     let s = c .before .before .before .before .before .before .before in
-    let n = few (s .args .net) (s .pre .sure .fit) in
+    let n = fit-rows (s .args .net) (s .pre .0 .sure .fit) .0 in
     (refl, omega arith, climb-start (s .args .net) (s .args .period) _ (omega arith) (same-at 512 0 n))
 
 slice-aggregate-sweep : tie.Need-slice-aggregate-sweep Inv-loop μ-loop
 slice-aggregate-sweep c = search needs
 
 sweep-requires : tie.Need-sweep-requires Inv-loop μ-loop
-sweep-requires c κs = (c .before .before .before .before .before .before .before .before .before .before .pre, c .before .before .loop .inv .2)
+sweep-requires c κs = let s = c .before .before .before .before .before .before .before .before .before .before in (s .pre .0, s .pre .1, c .before .before .loop .inv .2)
 
 enum-told : tie.Need-enum-told Inv-loop μ-loop
 enum-told c = search needs
@@ -65,13 +66,13 @@ labels-of-requires : tie.Need-labels-of-requires Inv-loop μ-loop
 labels-of-requires c κs =
     let s = c .before .before .before .before .before .before .before .before .before .before .before .before .before .before .before in
     let o = still (c .before) .0 in
-    (o .rows, few (s .args .net) (s .pre .sure .fit), o .low)
+    (o .rows, fit-rows (s .args .net) (s .pre .0 .sure .fit) .0, o .low)
 
 returns-2 : tie.Need-returns-2 Inv-loop μ-loop
 returns-2 c =
     let s = c .before .before .before .before .before .before .before .before .before .before .before .before .before .before .before .before in
     let o = still (c .before .before) in
-    λ _. climb-found (s .pre) (told-no _ (c .before .before .before .before .before .before .before .before .before .before .any-above .ensures) (c .before .before .before .before .before .before .before .before .before .if1 .left)) _ (o .0) (o .1) (c .labels-of .result) (c .labels-of .ensures)
+    λ _. climb-found (s .pre .0) (told-no _ (c .before .before .before .before .before .before .before .before .before .before .any-above .ensures) (c .before .before .before .before .before .before .before .before .before .if1 .left)) _ (o .0) (o .1) (c .labels-of .result) (c .labels-of .ensures)
 
 enum-told-2 : tie.Need-enum-told-2 Inv-loop μ-loop
 enum-told-2 c = search needs
@@ -86,7 +87,7 @@ returns-3 : tie.Need-returns-3 Inv-loop μ-loop
 returns-3 c =
     let s = c .before .before .before .before .before .before .before .before .before .before .before .before .before .before .before in
     let a = c .before .before .before .before in
-    λ _. climb-none (s .args .net) (s .args .period) (s .pre .sure) _ (c .without2 .ensures .1) (c .without2 .ensures .2) (subst (Left a) (c .before .enum-told3 .given .1) (a .sweep .ensures))
+    λ _. climb-none (s .args .net) (s .args .period) (s .pre .0 .sure) _ (c .without2 .ensures .1) (c .without2 .ensures .2) (subst (Left a) (c .before .enum-told3 .given .1) (a .sweep .ensures))
 
 enum-told-4 : tie.Need-enum-told-4 Inv-loop μ-loop
 enum-told-4 c = search needs

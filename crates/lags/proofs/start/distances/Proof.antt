@@ -2,7 +2,7 @@
 -- The measure is the sum of the distances and the last sweep's answer: a sweep that shortens makes the sum fall.
 use Prim.Native.Nat.{_+_}
 use native.Mathlib.Omega.{arith}
-use Rattle.netlist.proofs.Lowest.{few}
+use Rattle.netlist.proofs.Run.{fit-rows}
 use Rattle.lags.specs.inner.Starts.{distanceSum}
 use Rattle.lags.proofs.Starts.{Sweeping, far-start}
 use borrow.Author.Needs.{needs}
@@ -19,7 +19,7 @@ cast-start-far : tie.Need-cast-start-far Inv-loop μ-loop
 cast-start-far c = search needs
 
 start-far-requires : tie.Need-start-far-requires Inv-loop μ-loop
-start-far-requires c κs = let s = c .before .before .before in (omega (arith, few (s .args .t1) (s .pre .fit)), omega (arith, few (s .args .t1) (s .pre .fit)))
+start-far-requires c κs = let s = c .before .before .before in let n = fit-rows (s .args .t1) (s .pre .fit) .0 in (omega arith, omega arith)
 
 loop-holds : tie.Need-loop-holds Inv-loop μ-loop
 loop-holds c =

@@ -1,5 +1,5 @@
 -- `lags::start::first_labels` meets its contract: the labels of the distances.
-use Rattle.netlist.proofs.Lowest.{few}
+use Rattle.netlist.proofs.Run.{fit-rows}
 use borrow.Author.Needs.{needs}
 use Rattle.lags.proofs.start.first_labels.Statement.{statement}
 use Rattle.lags.proofs.start.first_labels.Tie as tie
@@ -17,7 +17,7 @@ labels-from-requires : tie.Need-labels-from-requires
 labels-from-requires c κs =
     let s = c .before .before .before in
     let m = c .before .before .distances .ensures in
-    let f = few (s .args .net) (s .pre .fit) in
+    let f = fit-rows (s .args .net) (s .pre .fit) .0 in
     ((m .ways .rows, f), m .ways .low)
 
 returns : tie.Need-returns

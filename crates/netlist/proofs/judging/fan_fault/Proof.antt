@@ -7,7 +7,8 @@ use borrow.Author.Tests.{not-true, not-false}
 use Rattle.graph.specs.inner.Laid.{Told}
 use Rattle.netlist.specs.Net.{graphOf}
 use Rattle.netlist.specs.Read.{FanInFits, All}
-use Rattle.netlist.proofs.Lowest.{few, laid, fan-test, told-yes, told-no, sought-lowest, sought-none}
+use Rattle.netlist.proofs.Run.{fit-rows}
+use Rattle.netlist.proofs.Lowest.{laid, fan-test, told-yes, told-no, sought-lowest, sought-none}
 use Rattle.netlist.proofs.judging.fan_fault.Statement.{statement}
 use Rattle.netlist.proofs.judging.fan_fault.Tie as tie
 
@@ -30,13 +31,13 @@ loop-holds : tie.Need-loop-holds Inv-loop μ-loop
 loop-holds c = (omega arith, λ v h. absurd (let z : ⊥ = omega arith in z))
 
 element-copy-out-fan-fits : tie.Need-element-copy-out-fan-fits Inv-loop μ-loop
-element-copy-out-fan-fits c = omega (arith, few (c .before .before .before .before .before .before .before .before .args .t1) (c .before .before .before .before .before .before .before .before .pre))
+element-copy-out-fan-fits c = omega (arith, fit-rows (c .before .before .before .before .before .before .before .before .args .t1) (c .before .before .before .before .before .before .before .before .pre) .0)
 
 mul-fan-fits : tie.Need-mul-fan-fits Inv-loop μ-loop
 mul-fan-fits c = search needs
 
 array-read-fan-fits : tie.Need-array-read-fan-fits Inv-loop μ-loop
-array-read-fan-fits c = omega (arith, few (c .before .before .before .before .before .before .before .before .before .args .t1) (c .before .before .before .before .before .before .before .before .before .pre))
+array-read-fan-fits c = omega (arith, fit-rows (c .before .before .before .before .before .before .before .before .before .args .t1) (c .before .before .before .before .before .before .before .before .before .pre) .0)
 
 fan-fits-requires : tie.Need-fan-fits-requires Inv-loop μ-loop
 fan-fits-requires c κs = search needs

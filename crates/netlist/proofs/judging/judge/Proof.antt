@@ -3,8 +3,8 @@ use mathlib.Core.Path.{refl}
 use native.Mathlib.Omega.{arith}
 use borrow.Author.Needs.{needs}
 use Rattle.netlist.specs.Order.{here, past}
+use Rattle.netlist.proofs.Run.{fit-rows}
 use Rattle.netlist.proofs.Lowest.{laid, told-yes, told-no}
-use Rattle.netlist.proofs.Fits.{head-fits}
 use Rattle.netlist.proofs.Answered.{sought-stop, sought-past}
 use Rattle.netlist.proofs.judging.judge.Statement.{statement}
 use Rattle.netlist.proofs.judging.judge.Tie as tie
@@ -28,7 +28,9 @@ cast-looped : tie.Need-cast-looped
 cast-looped c = search needs
 
 looped-requires : tie.Need-looped-requires
-looped-requires c κs = let n = c .before .before .before .before .before .before .before .before .before .before .args .t1 in let h = head-fits _ _ _ _ (c .before .before .before .before .before .before .before .before .before .before .pre .head) in (laid n (c .before .before .before .before .before .before .before .before .before .before .pre) (search needs) (search needs), omega (arith, h .3))
+looped-requires c κs =
+    let s = c .before .before .before .before .before .before .before .before .before .before in
+    (laid (s .args .t1) (s .pre) (search needs) (search needs), omega (arith, fit-rows (s .args .t1) (s .pre) .1))
 
 returns-2 : tie.Need-returns-2
 returns-2 c =

@@ -10,8 +10,8 @@ use Rattle.graph.specs.Columns.{at}
 use Rattle.graph.specs.inner.Laid.{reverse, From, Told}
 use Rattle.netlist.specs.Net.{graphOf}
 use Rattle.netlist.specs.Read.{InReach, All}
-use Rattle.netlist.proofs.Run.{fit-wired}
-use Rattle.netlist.proofs.Lowest.{few, laid, joined-yes, unfed, unused, sought-lowest, sought-none}
+use Rattle.netlist.proofs.Run.{fit-rows, fit-wired}
+use Rattle.netlist.proofs.Lowest.{laid, joined-yes, unfed, unused, sought-lowest, sought-none}
 use Rattle.netlist.proofs.judging.reach_fault.Statement.{statement}
 use Rattle.netlist.proofs.judging.reach_fault.Tie as tie
 
@@ -48,26 +48,23 @@ cast-edges : tie.Need-cast-edges Inv-loop μ-loop
 cast-edges c = search needs
 
 reached-requires : tie.Need-reached-requires Inv-loop μ-loop
-reached-requires c κs = (laid (c .before .before .before .before .before .before .before .args .t1) (c .before .before .before .before .before .before .before .pre) (search needs) (search needs), omega (arith, few (c .before .before .before .before .before .before .before .args .t1) (c .before .before .before .before .before .before .before .pre)))
+reached-requires c κs = (laid (c .before .before .before .before .before .before .before .args .t1) (c .before .before .before .before .before .before .before .pre) (search needs) (search needs), omega (arith, fit-rows (c .before .before .before .before .before .before .before .args .t1) (c .before .before .before .before .before .before .before .pre) .0))
 
 reached-requires-2 : tie.Need-reached-requires-2 Inv-loop μ-loop
 reached-requires-2 c κs =
     let l = laid (c .before .before .before .before .before .before .before .before .before .before .before .before .before .before .before .args .t1) (c .before .before .before .before .before .before .before .before .before .before .before .before .before .before .before .pre) (search needs) (search needs) in (
       record { nodes-fit = l .nodes-fit; edges-fit = l .edges-fit; from-rows = l .to-rows; to-rows = l .from-rows; from-in = l .to-in; to-in = l .from-in },
-      omega (arith, few (c .before .before .before .before .before .before .before .before .before .before .before .before .before .before .before .args .t1) (c .before .before .before .before .before .before .before .before .before .before .before .before .before .before .before .pre)),
+      omega (arith, fit-rows (c .before .before .before .before .before .before .before .before .before .before .before .before .before .before .before .args .t1) (c .before .before .before .before .before .before .before .before .before .before .before .before .before .before .before .pre) .0),
     )
 
 loop-holds : tie.Need-loop-holds Inv-loop μ-loop
 loop-holds c = (omega arith, λ v h. absurd (let z : ⊥ = omega arith in z))
 
-mul-if1 : tie.Need-mul-if1 Inv-loop μ-loop
-mul-if1 c = search needs
-
 array-read-if1 : tie.Need-array-read-if1 Inv-loop μ-loop
-array-read-if1 c = omega (arith, few (c .before .before .before .before .before .before .before .before .before .before .before .before .before .before .before .before .before .before .args .t1) (c .before .before .before .before .before .before .before .before .before .before .before .before .before .before .before .before .before .before .pre))
+array-read-if1 c = omega (arith, fit-rows (c .before .before .before .before .before .before .before .before .before .before .before .before .before .before .before .before .before .before .args .t1) (c .before .before .before .before .before .before .before .before .before .before .before .before .before .before .before .before .before .before .pre) .0)
 
-cast-t27 : tie.Need-cast-t27 Inv-loop μ-loop
-cast-t27 c = search needs
+cast-t26 : tie.Need-cast-t26 Inv-loop μ-loop
+cast-t26 c = search needs
 
 returns : tie.Need-returns Inv-loop μ-loop
 returns c =
@@ -76,14 +73,11 @@ returns c =
     let m = marks o v (c .before .loop-test .taken) in
     sought-lowest (c .before .loop-test .taken) (all o (search needs)) (unfed (wired o) v (fed o v) (used o v) (m .0) (m .1) (c .if1 .taken))
 
-mul-if2 : tie.Need-mul-if2 Inv-loop μ-loop
-mul-if2 c = search needs
-
 array-read-if2 : tie.Need-array-read-if2 Inv-loop μ-loop
-array-read-if2 c = omega (arith, few (c .before .before .before .before .before .before .before .before .before .before .before .before .before .before .before .before .before .before .before .args .t1) (c .before .before .before .before .before .before .before .before .before .before .before .before .before .before .before .before .before .before .before .pre))
+array-read-if2 c = omega (arith, fit-rows (c .before .before .before .before .before .before .before .before .before .before .before .before .before .before .before .before .before .before .before .args .t1) (c .before .before .before .before .before .before .before .before .before .before .before .before .before .before .before .before .before .before .before .pre) .0)
 
-cast-t31 : tie.Need-cast-t31 Inv-loop μ-loop
-cast-t31 c = search needs
+cast-t30 : tie.Need-cast-t30 Inv-loop μ-loop
+cast-t30 c = search needs
 
 returns-2 : tie.Need-returns-2 Inv-loop μ-loop
 returns-2 c =
@@ -115,13 +109,11 @@ reach-fault-spec =
     reached-requires
     reached-requires-2
     loop-holds
-    mul-if1
     array-read-if1
-    cast-t27
+    cast-t26
     returns
-    mul-if2
     array-read-if2
-    cast-t31
+    cast-t30
     returns-2
     add-v
     loop-less

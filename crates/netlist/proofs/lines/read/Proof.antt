@@ -6,6 +6,12 @@ use Rattle.netlist.proofs.Answered.{lined-stop, lined-net, lined-fit, k
 use Rattle.netlist.proofs.lines.read.Statement.{statement}
 use Rattle.netlist.proofs.lines.read.Tie as tie
 
+digit-table-requires : tie.Need-digit-table-requires
+digit-table-requires c κs = search needs
+
+slice-aggregate-read-lines : tie.Need-slice-aggregate-read-lines
+slice-aggregate-read-lines c = search needs
+
 read-lines-requires : tie.Need-read-lines-requires
 read-lines-requires c κs = search needs
 
@@ -19,7 +25,7 @@ returns : tie.Need-returns
 returns c = lined-stop _ _ _ (c .enum-told2 .given .1) (c .before .before .read-lines .ensures)
 
 -- The lines are right.
-right : (c : tie.After-net) → linesOf (c .before .before .before .before .before .args .text .now) ≡ lines (c .before .before .before .read-lines .result .net)
+right : (c : tie.After-net) → linesOf (c .before .before .before .before .before .before .before .args .text .now) ≡ lines (c .before .before .before .read-lines .result .net)
 right c = lined-net _ _ _ (c .before .enum-told .given .1) (c .before .before .before .read-lines .ensures)
 
 judge-requires : tie.Need-judge-requires
@@ -44,6 +50,8 @@ pub read-spec : {M : Type 1} → statement M
 read-spec =
     tie.close
     (tie.spec
+    digit-table-requires
+    slice-aggregate-read-lines
     read-lines-requires
     enum-told
     enum-told-2

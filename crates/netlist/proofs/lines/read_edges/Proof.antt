@@ -8,6 +8,7 @@ use native.Mathlib.Omega.{arith}
 use lib.ListN.{drop}
 use borrow.Author.Needs.{needs}
 use borrow.Author.Tests.{not-true, not-false}
+use Rattle.frame.specs.inner.Decoded.{Digits}
 use Rattle.netlist.specs.declared.Netlist.{Netlist}
 use Rattle.netlist.specs.Net.{graphOf}
 use Rattle.rules.specs.Rules.{edgeFits}
@@ -17,19 +18,19 @@ use Rattle.netlist.proofs.lines.read_edges.Statement.{statement}
 use Rattle.netlist.proofs.lines.read_edges.Tie as tie
 
 abbrev Inv-loop : tie.InvT-loop
-Inv-loop text at0 net₀ nodes edges first at₀ e₀ net at e =
+Inv-loop table text at0 net₀ nodes edges first at₀ e₀ net at e =
     (e ≤ edges) × (net .nodes ≡ net₀ .nodes) × (net .edges ≡ net₀ .edges)
     × (edgesFrom (edges - e) e (2 + net₀ .nodes + e) (drop at text) net ≡ edgesFrom edges 0 (2 + net₀ .nodes) (drop at0 text) net₀)
 
 abbrev μ-loop : tie.MeasureT-loop
-μ-loop text at0 net₀ nodes edges first at₀ e₀ net at e = edges - e
+μ-loop table text at0 net₀ nodes edges first at₀ e₀ net at e = edges - e
 
 module _ (c : tie.In-loop Inv-loop μ-loop) where
   abbrev t : List ℕ
-  t = c .before .before .before .args .text .now
+  t = c .before .before .before .before .args .text .now
 
   abbrev net₀ : Netlist
-  net₀ = c .before .before .before .args .net0
+  net₀ = c .before .before .before .before .args .net0
 
   abbrev net : Netlist
   net = c .before .loop .net
@@ -40,8 +41,12 @@ module _ (c : tie.In-loop Inv-loop μ-loop) where
   abbrev e : ℕ
   e = c .before .loop .e
 
+  -- The table is one of digits.
+  digits : Digits (c .before .before .before .before .args .table .now)
+  digits = c .before .before .before .before .pre .0
+
   -- The next line is the first of those that are left.
-  left : edgesFrom (suc (net₀ .edges - (e + 1))) e (2 + net₀ .nodes + e) (drop at t) net ≡ edgesFrom (net₀ .edges) 0 (2 + net₀ .nodes) (drop (c .before .before .before .args .at0) t) net₀
+  left : edgesFrom (suc (net₀ .edges - (e + 1))) e (2 + net₀ .nodes + e) (drop at t) net ≡ edgesFrom (net₀ .edges) 0 (2 + net₀ .nodes) (drop (c .before .before .before .before .args .at0) t) net₀
   left = let q : net₀ .edges - e ≡ suc (net₀ .edges - (e + 1)) = omega arith in rw q at (c .before .loop .inv .3)
 
 -- Places of a turn: where it began, from where its line was opened; that, from where its numbers were taken, and from where they were tested.
@@ -55,8 +60,8 @@ abbrev taken : tie.After-edge-fits Inv-loop μ-loop → tie.After-edge-row Inv-l
 taken c = c .before .before .before .before
 
 -- The line of this turn.
-line : (c : tie.Else1 Inv-loop μ-loop) → Opened 3 9 (at (turn-of c)) (t (turn-of c)) (c .before .before .frame-at .result .bytes)
-line c = opened 3 9 (at (turn-of c)) (t (turn-of c)) _ (c .before .before .frame-at .ensures) (omega arith) (not-false _ (c .if1 .left))
+line : (c : tie.Else1 Inv-loop μ-loop) → Opened 3 9 (at (turn-of c)) (t (turn-of c)) (c .before .before .frame-by .result .bytes)
+line c = opened 3 9 (at (turn-of c)) (t (turn-of c)) _ (c .before .before .frame-by .ensures (digits (turn-of c))) (omega arith) (not-false _ (c .if1 .left))
 
 module _ (c : tie.After-edge-fits Inv-loop μ-loop) where
   abbrev turn : tie.In-loop Inv-loop μ-loop
@@ -77,13 +82,13 @@ add-first c = search needs
 
 loop-holds : tie.Need-loop-holds Inv-loop μ-loop
 loop-holds c =
-    let n = c .before .args .net0 in
+    let n = c .before .before .args .net0 in
     let p : n .edges - 0 ≡ n .edges = omega arith in
     let q : 2 + n .nodes + 0 ≡ 2 + n .nodes = omega arith in
     (omega arith, refl, refl, rw (p, q))
 
-frame-at-requires : tie.Need-frame-at-requires Inv-loop μ-loop
-frame-at-requires c κs = search needs
+frame-by-requires : tie.Need-frame-by-requires Inv-loop μ-loop
+frame-by-requires c κs = search needs
 
 add-fault : tie.Need-add-fault Inv-loop μ-loop
 add-fault c = search needs
@@ -94,7 +99,7 @@ fault-requires c κs = search needs
 returns : tie.Need-returns Inv-loop μ-loop
 returns c =
     let o = c .before .before .before .before in
-    let none = closed 3 9 (at o) (t o) _ (c .before .before .before .frame-at .ensures) (omega arith) (not-true _ (c .before .if1 .taken)) in (
+    let none = closed 3 9 (at o) (t o) _ (c .before .before .before .frame-by .ensures (digits o)) (omega arith) (not-true _ (c .before .if1 .taken)) in (
       goes-fault _ (c .fault .ensures .0) (c .fault .ensures .1) (sym (left o) ∙ edge-none (t o) (at o) _ (e o) (2 + net₀ o .nodes) (net o) none),
       empty-sizes (c .fault .ensures .1),
     )
@@ -144,7 +149,7 @@ element-write-net-4 : tie.Need-element-write-net-4 Inv-loop μ-loop
 element-write-net-4 c = search needs
 
 add-at : tie.Need-add-at Inv-loop μ-loop
-add-at c = omega (arith, line (opened-at (taken (c .before))) .room, turn (c .before) .before .before .before .good)
+add-at c = omega (arith, line (opened-at (taken (c .before))) .room, turn (c .before) .before .before .before .before .good)
 
 add-e : tie.Need-add-e Inv-loop μ-loop
 add-e c = search needs
@@ -170,7 +175,7 @@ returns-3 : tie.Need-returns-3 Inv-loop μ-loop
 unfolding edgesFrom
 returns-3 c =
     let here = c .before .loop in
-    let net₀ = c .before .before .before .args .net0 in
+    let net₀ = c .before .before .before .before .args .net0 in
     let d : 2 + net₀ .nodes + here .e ≡ 2 + here .net .nodes + here .net .edges = omega (arith, here .inv .1, here .inv .2) in
     let q : net₀ .edges - here .e ≡ 0 = omega arith in
     (sym (rw (q, d) at (here .inv .3)), (omega (arith, here .inv .1), omega (arith, here .inv .2)))
@@ -185,7 +190,7 @@ read-edges-spec =
     cast-first
     add-first
     loop-holds
-    frame-at-requires
+    frame-by-requires
     add-fault
     fault-requires
     returns

@@ -4,6 +4,7 @@ use mathlib.Core.Path.{_≡_, refl, sym, _∙_, subst}
 use native.Mathlib.Omega.{arith}
 use lib.ListN.{drop}
 use borrow.Author.Tests.{not-true, not-false}
+use Rattle.frame.specs.inner.Decoded.{framed}
 use Rattle.netlist.specs.Net.{withHead}
 use Rattle.netlist.specs.Read.{linesOf, nodesFrom}
 use Rattle.netlist.proofs.Fits.{head-fits}
@@ -12,8 +13,12 @@ use borrow.Author.Needs.{needs}
 use Rattle.netlist.proofs.lines.read_head.Statement.{statement}
 use Rattle.netlist.proofs.lines.read_head.Tie as tie
 
-frame-at-requires : tie.Need-frame-at-requires
-frame-at-requires c κs = search needs
+-- The head line, by the table.
+first : (c : tie.After-frame-by) → c .frame-by .result ≡ framed 1 7 (c .before .before .before .args .text .now)
+first c = c .frame-by .ensures (c .before .before .before .pre)
+
+frame-by-requires : tie.Need-frame-by-requires
+frame-by-requires c κs = search needs
 
 fault-requires : tie.Need-fault-requires
 fault-requires c κs = search needs
@@ -21,7 +26,7 @@ fault-requires c κs = search needs
 returns : tie.Need-returns
 returns c = (
   goes-fault _ (c .fault .ensures .0) (c .fault .ensures .1)
-      (head-none _ (closed 1 7 0 _ _ (c .before .before .before .frame-at .ensures) (omega arith) (not-true _ (c .before .if1 .taken)))),
+      (head-none _ (closed 1 7 0 _ _ (first (c .before .before .before)) (omega arith) (not-true _ (c .before .if1 .taken)))),
   empty-sizes (c .fault .ensures .1),
 )
 
@@ -64,7 +69,7 @@ fault-requires-2 c κs = search needs
 returns-2 : tie.Need-returns-2
 returns-2 c = (
   goes-fault _ (c .fault2 .ensures .0) (c .fault2 .ensures .1)
-      (head-wrong _ _ (opened 1 7 0 _ _ (c .before .before .before .before .before .before .before .before .before .frame-at .ensures) (omega arith) (not-false _ (c .before .before .before .before .before .before .before .if1 .left))) _ _ _ _
+      (head-wrong _ _ (opened 1 7 0 _ _ (first (c .before .before .before .before .before .before .before .before .before)) (omega arith) (not-false _ (c .before .before .before .before .before .before .before .if1 .left))) _ _ _ _
       (c .before .before .before .before .before .pair .ensures) refl (c .before .before .before .before .pair2 .ensures) (c .before .before .before .pair3 .ensures) (sym (c .before .before .head-fits .ensures) ∙ not-true _ (c .before .if2 .taken))),
   empty-sizes (c .fault2 .ensures .1),
 )
@@ -75,10 +80,10 @@ with-head-requires c κs = search needs
 returns-3 : tie.Need-returns-3
 unfolding withHead
 returns-3 c =
-    let t = c .before .before .before .before .before .before .before .before .before .before .before .args .text .now in
+    let t = c .before .before .before .before .before .before .before .before .before .before .before .before .args .text .now in
     let fits = sym (c .before .before .head-fits .ensures) ∙ not-false _ (c .before .if2 .left) in
     subst (λ net. (linesOf t ≡ nodesFrom (net .nodes) 0 2 (drop 17 t) net) × ((net .nodes ≤ 512) × (net .edges ≤ 1024))) (sym (c .with-head .ensures)) (
-      head-good t _ (opened 1 7 0 t _ (c .before .before .before .before .before .before .before .before .before .frame-at .ensures) (omega arith) (not-false _ (c .before .before .before .before .before .before .before .if1 .left))) _ _ _ _
+      head-good t _ (opened 1 7 0 t _ (first (c .before .before .before .before .before .before .before .before .before)) (omega arith) (not-false _ (c .before .before .before .before .before .before .before .if1 .left))) _ _ _ _
           (c .before .before .before .before .before .pair .ensures) refl (c .before .before .before .before .pair2 .ensures) (c .before .before .before .pair3 .ensures) fits,
       let h = head-fits _ _ _ _ fits in (h .2, h .3),
     )
@@ -87,7 +92,7 @@ pub read-head-spec : {M : Type 1} → statement M
 read-head-spec =
     tie.close
     (tie.spec
-    frame-at-requires
+    frame-by-requires
     fault-requires
     returns
     array-read-pair

@@ -10,17 +10,17 @@ use Rattle.netlist.proofs.lines.read_lines.Tie as tie
 
 -- After each stage that has gone on: what all the lines come to.
 headed : (c : tie.After-enum-told)
-    → linesOf (c .before .before .before .before .before .args .text .now) ≡ nodesFrom (c .before .before .before .read-head .result .net .nodes) 0 2 (drop (c .before .before .before .read-head .result .at) (c .before .before .before .before .before .args .text .now)) (c .before .before .before .read-head .result .net)
+    → linesOf (c .before .before .before .before .before .before .args .text .now) ≡ nodesFrom (c .before .before .before .read-head .result .net .nodes) 0 2 (drop (c .before .before .before .read-head .result .at) (c .before .before .before .before .before .before .args .text .now)) (c .before .before .before .read-head .result .net)
 headed c = goes-done _ _ _ (c .before .before .before .read-head .result .net) (c .enum-told .given .1) (c .before .before .before .read-head .ensures .0)
 
 noded : (c : tie.After-enum-told3)
-    → linesOf (c .before .before .before .before .before .before .before .before .before .args .text .now)
-    ≡ edgesFrom (c .before .before .before .read-nodes .result .net .edges) 0 (2 + c .before .before .before .read-nodes .result .net .nodes) (drop (c .before .before .before .read-nodes .result .at) (c .before .before .before .before .before .before .before .before .before .args .text .now)) (c .before .before .before .read-nodes .result .net)
+    → linesOf (c .before .before .before .before .before .before .before .before .before .before .args .text .now)
+    ≡ edgesFrom (c .before .before .before .read-nodes .result .net .edges) 0 (2 + c .before .before .before .read-nodes .result .net .nodes) (drop (c .before .before .before .read-nodes .result .at) (c .before .before .before .before .before .before .before .before .before .before .args .text .now)) (c .before .before .before .read-nodes .result .net)
 noded c = headed (c .before .before .before .before) ∙ goes-done _ _ _ (c .before .before .before .read-nodes .result .net) (c .enum-told3 .given .1) (c .before .before .before .read-nodes .ensures .0)
 
 edged : (c : tie.After-enum-told5)
-    → linesOf (c .before .before .before .before .before .before .before .before .before .before .before .before .before .args .text .now)
-    ≡ nothingMore (drop (c .before .before .before .read-edges .result .at) (c .before .before .before .before .before .before .before .before .before .before .before .before .before .args .text .now)) (2 + c .before .before .before .read-edges .result .net .nodes + c .before .before .before .read-edges .result .net .edges) (c .before .before .before .read-edges .result .net)
+    → linesOf (c .before .before .before .before .before .before .before .before .before .before .before .before .before .before .args .text .now)
+    ≡ nothingMore (drop (c .before .before .before .read-edges .result .at) (c .before .before .before .before .before .before .before .before .before .before .before .before .before .before .args .text .now)) (2 + c .before .before .before .read-edges .result .net .nodes + c .before .before .before .read-edges .result .net .edges) (c .before .before .before .read-edges .result .net)
 edged c = noded (c .before .before .before .before) ∙ goes-done _ _ _ (c .before .before .before .read-edges .result .net) (c .enum-told5 .given .1) (c .before .before .before .read-edges .ensures .0)
 
 read-head-requires : tie.Need-read-head-requires

@@ -1,6 +1,7 @@
 -- `simulate::clocks::enter` meets its contract: first the inputs, then the registers.
+use mathlib.Core.Path.{ap, _∙_}
 use borrow.Author.Needs.{needs}
-use Rattle.simulate.proofs.Signals.{begun}
+use Rattle.simulate.specs.inner.Signals.{withRegisters}
 use Rattle.simulate.proofs.clocks.enter.Statement.{statement}
 use Rattle.simulate.proofs.clocks.enter.Tie as tie
 
@@ -15,9 +16,9 @@ same-length c = search needs
 
 returns : tie.Need-returns
 returns c =
-    let s = c .before .before .before .before .before .before .before .before .before .before .before .before in
-    let a = s .args in
-    begun (a .kind .now) (a .nodes) (a .words .now) (a .edges) (a .vectors .now) (a .at0) (s .pre .0 .0) (c .before .before .before .before .before .before .put-inputs .ensures) (c .before .before .show-registers .ensures)
+    let a = c .before .before .before .before .before .before .before .before .before .before .before .before .before .args in
+    c .before .before .show-registers .ensures
+    ∙ ap (withRegisters (a .registers .now) (a .m) (a .words .now)) (c .before .before .before .before .before .before .put-inputs .ensures)
 
 pub enter-spec : {M : Type 1} → statement M
 enter-spec = tie.close (tie.spec put-inputs-requires show-registers-requires same-length returns)

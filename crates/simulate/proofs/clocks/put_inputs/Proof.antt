@@ -1,58 +1,59 @@
--- `simulate::clocks::put_inputs` meets its contract: the inputs below v are put, and the cursor is at the next byte.
-use Prim.Native.Nat.{_+_, _-_, _≤_}
-use mathlib.Core.Path.{_≡_, subst}
-use mathlib.Core.Logic.{⊎-elim}
-use Rattle.simulate.specs.inner.Signals.{among, Entered}
-use Rattle.simulate.proofs.Signals.{among-less, Entering, entering-start, entering-hit, entering-miss}
+-- `simulate::clocks::put_inputs` meets its contract: the first i bytes are put.
+use Prim.Native.Nat.{_-_, _≤_}
+use mathlib.Core.Path.{_≡_, refl, ap, _∙_}
+use lib.ListN.{length, length-set}
+use Rattle.simulate.specs.inner.Signals.{written, withInputs}
+use Rattle.simulate.proofs.Written.{written-more}
 use native.Mathlib.Omega.{arith}
 use borrow.Author.Needs.{needs}
 use Rattle.simulate.proofs.clocks.put_inputs.Statement.{statement}
 use Rattle.simulate.proofs.clocks.put_inputs.Tie as tie
 
 abbrev Inv-loop : tie.InvT-loop
-Inv-loop kind nodes vectors at0 sig₀ at₀ v₀ sig at v = (v ≤ nodes) × Entering kind vectors at0 sig₀ v at sig
+Inv-loop inputs n vectors at0 sig₀ i₀ sig i = (i ≤ n) × (length sig ≡ length sig₀) × (sig ≡ withInputs inputs i vectors at0 sig₀)
 
 abbrev μ-loop : tie.MeasureT-loop
-μ-loop kind nodes vectors at0 sig₀ at₀ v₀ sig at v = nodes - v
+μ-loop inputs n vectors at0 sig₀ i₀ sig i = n - i
 
 loop-holds : tie.Need-loop-holds Inv-loop μ-loop
-loop-holds c = (omega arith, entering-start _ _ _ _)
+unfolding written
+loop-holds c = (omega arith, refl, refl)
 
-shared-slice-read-if1 : tie.Need-shared-slice-read-if1 Inv-loop μ-loop
-shared-slice-read-if1 c = search needs
+mul-v : tie.Need-mul-v Inv-loop μ-loop
+mul-v c = search needs
 
--- An input is one of the inputs.
-room : (c : tie.After-shared-slice-known2 Inv-loop μ-loop) → among (c .before .before .before .before .before .args .kind .now) 0 (c .before .before .before .before .loop .v) + 1 ≤ among (c .before .before .before .before .before .args .kind .now) 0 (c .before .before .before .before .before .args .nodes)
-room c = let a = c .before .before .before .before .before .args in let l = c .before .before .before .before .loop in among-less (a .kind .now) 0 (l .v) (a .nodes) (c .before .if1 .taken) (omega arith)
+shared-slice-read-v : tie.Need-shared-slice-read-v Inv-loop μ-loop
+shared-slice-read-v c = omega (arith, c .before .before .before .pre .0 .rows)
+
+cast-v : tie.Need-cast-v Inv-loop μ-loop
+cast-v c = omega (arith, c .shared-slice-known .given (c .before .before .loop .i))
+
+add-sig : tie.Need-add-sig Inv-loop μ-loop
+add-sig c = search needs
 
 shared-slice-read-sig : tie.Need-shared-slice-read-sig Inv-loop μ-loop
-shared-slice-read-sig c = omega (arith, room c)
+shared-slice-read-sig c = search needs
 
 slice-write-sig : tie.Need-slice-write-sig Inv-loop μ-loop
-slice-write-sig c = search needs
+slice-write-sig c = omega (arith, c .before .before .before .before .pre .0 .below (c .before .before .before .loop .i) (omega arith))
 
-add-at : tie.Need-add-at Inv-loop μ-loop
-add-at c = omega (arith, room c, c .before .before .before .before .before .good)
-
-add-v : tie.Need-add-v Inv-loop μ-loop
-add-v c = search needs
+add-i : tie.Need-add-i Inv-loop μ-loop
+add-i c = search needs
 
 loop-less : tie.Need-loop-less Inv-loop μ-loop
 loop-less c = search needs
 
 loop-again : tie.Need-loop-again Inv-loop μ-loop
-loop-again c =
-    let l = c .before .before .before .loop in (
-      omega arith,
-      ⊎-elim (λ w. entering-hit _ _ _ _ (l .v) (l .at) (l .sig) (l .inv .1) (omega (arith, l .inv .1 .size)) (w .0 .taken) _ _ (w .2) (w .3))
-          (λ w. entering-miss _ _ _ _ (l .v) (l .at) (l .sig) (l .inv .1) (w .0 .left) _ _ (w .1) (w .2)) (c .if1 .came),
-    )
+loop-again c = let l = c .before .before .before .loop in (omega arith, length-set (l .sig) _ _ ∙ l .inv .1, written-more _ _ (l .i) _ (l .inv .2))
 
 same-length : tie.Need-same-length Inv-loop μ-loop
-same-length c = c .before .loop .inv .1 .size
+same-length c = c .before .loop .inv .1
 
 returns : tie.Need-returns Inv-loop μ-loop
-returns c = let l = c .before .loop in let a = c .before .before .args in subst (λ n. Entered (a .kind .now) n (a .vectors .now) (a .at0) (a .sig .now) (l .sig)) (let y : l .v ≡ c .before .before .args .nodes = omega arith in y) (l .inv .1 .so-far)
+returns c =
+    let a = c .before .before .args in
+    let l = c .before .loop in
+    l .inv .2 ∙ ap (λ n. withInputs (a .inputs .now) n (a .vectors .now) (a .at0) (a .sig .now)) (let y : l .i ≡ a .n = omega arith in y)
 
 pub put-inputs-spec : {M : Type 1} → statement M
 put-inputs-spec =
@@ -61,11 +62,13 @@ put-inputs-spec =
     Inv-loop
     μ-loop
     loop-holds
-    shared-slice-read-if1
+    mul-v
+    shared-slice-read-v
+    cast-v
+    add-sig
     shared-slice-read-sig
     slice-write-sig
-    add-at
-    add-v
+    add-i
     loop-less
     loop-again
     same-length

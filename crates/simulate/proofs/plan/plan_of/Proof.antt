@@ -2,10 +2,10 @@
 use native.Mathlib.Omega.{arith}
 use borrow.Author.Needs.{needs}
 use Rattle.graph.specs.Columns.{at}
-use Rattle.netlist.proofs.Lowest.{few, kind-low, laid, fan-low}
+use Rattle.netlist.proofs.Lowest.{kind-low, laid}
 use Rattle.graph.proofs.Laws.{loop-kinds}
 use Rattle.netlist.proofs.Run.{fit-rows}
-use Rattle.simulate.proofs.Seen.{ins-edge, first-rises, seen-count}
+use Rattle.simulate.proofs.Seen.{entering}
 use Rattle.simulate.proofs.Plans.{planned}
 use Rattle.simulate.proofs.plan.plan_of.Statement.{statement}
 use Rattle.simulate.proofs.plan.plan_of.Tie as tie
@@ -16,8 +16,8 @@ cast-nodes c = search needs
 cast-edges : tie.Need-cast-edges
 cast-edges c = search needs
 
-by-rank-requires : tie.Need-by-rank-requires
-by-rank-requires c κs =
+evaluation-order-requires : tie.Need-evaluation-order-requires
+evaluation-order-requires c κs =
     let s = c .before .before .before .before .before .before .before in
     let net = s .args .t1 in (
       (laid net (s .pre .0) (search needs) (search needs), omega (arith, fit-rows net (s .pre .0) .1)),
@@ -34,8 +34,8 @@ gates-of-requires : tie.Need-gates-of-requires
 gates-of-requires c κs =
     let ranked = c .before .before .before .before .before in
     let s = ranked .before .before .before .before .before .before .before .before in
-    let n = few (s .args .t1) (s .pre .0) in
-    ((omega (arith, ranked .by-rank .ok), omega arith, omega arith), ranked .by-rank .ensures .nodes-only)
+    let n = fit-rows (s .args .t1) (s .pre .0) .0 in
+    ((omega (arith, ranked .evaluation-order .ok), omega arith, omega arith), ranked .evaluation-order .ensures .nodes-only)
 
 slice-aggregate-sort-by : tie.Need-slice-aggregate-sort-by
 slice-aggregate-sort-by c = search needs
@@ -62,7 +62,7 @@ signals-of-requires c κs =
     let s = ranked .before .before .before .before .before .before .before .before in
     let net = s .args .t1 in
     let r = fit-rows net (s .pre .0) in
-    (r .1, omega (arith, sorted .sort-by .kept .1 .1 .1 .0), ins-edge net (s .pre .0) (r .1) (sorted .sort-by .ensures))
+    (r .1, omega (arith, sorted .sort-by .kept .1 .1 .1 .0), entering net (s .pre .0) (s .pre .1 .0) (r .1) (sorted .sort-by .ensures) .edge)
 
 slice-aggregate-put-truths : tie.Need-slice-aggregate-put-truths
 slice-aggregate-put-truths c = search needs
@@ -78,13 +78,9 @@ put-truths-requires c κs =
     let s = ranked .before .before .before .before .before .before .before .before in
     let net = s .args .t1 in
     let r = fit-rows net (s .pre .0) in
-    let by-node = sorted .sort-by .ensures in (
+    let en = entering net (s .pre .0) (s .pre .1 .0) (r .1) (sorted .sort-by .ensures) in (
       (omega arith, omega (arith, sorted .sort-by .kept .1 .1 .1 .1 .0), r .0),
-      λ v h. (
-        kind-low net (s .pre .0) v h,
-        first-rises net (s .pre .0) (r .1) by-node v h,
-        omega (arith, seen-count net (s .pre .0) (r .1) by-node v h, fan-low net (s .pre .1 .0) v h),
-      ),
+      λ v h. (kind-low net (s .pre .0) v h, en .rising v h, en .few v h),
     )
 
 index-table-requires : tie.Need-index-table-requires
@@ -98,7 +94,7 @@ returns c =
     let s = ranked .before .before .before .before .before .before .before .before in
     let net = s .args .t1 in
     let r = fit-rows net (s .pre .0) in
-    planned net _ (s .pre .0) _ (ranked .by-rank .ensures) (kept .gates-of .ensures) (r .1) (sorted .sort-by .ensures)
+    planned net _ (s .pre .0) _ (ranked .evaluation-order .ensures) (kept .gates-of .ensures) (entering net (s .pre .0) (s .pre .1 .0) (r .1) (sorted .sort-by .ensures))
     (omega (arith, c .before .before .before .before .before .before .before .before .signals-of .ok)) (c .before .before .before .before .before .before .before .before .signals-of .ensures) (c .before .before .put-truths .ensures) (c .index-table .ensures)
 
 pub plan-of-spec : {M : Type 1} → statement M
@@ -107,7 +103,7 @@ plan-of-spec =
     (tie.spec
     cast-nodes
     cast-edges
-    by-rank-requires
+    evaluation-order-requires
     slice-aggregate-gates-of
     slice-aggregate-gates-of-2
     gates-of-requires

@@ -9,20 +9,24 @@ use Rattle.gates.proofs.Row.{evaluated-bits}
 use Rattle.netlist.specs.declared.Netlist.{Netlist}
 use Rattle.netlist.proofs.Run.{fit-rows}
 use Rattle.simulate.specs.declared.plan.Plan.{Plan}
+use Rattle.simulate.specs.declared.touched.Lists.{Lists}
 use Rattle.simulate.specs.Clock.{earlier, inputs, outputs}
+use Rattle.simulate.specs.inner.Lists.{Touched}
 use Rattle.simulate.proofs.Evaluated.{Rows, plan-evaluable, plan-truths}
-use Rattle.simulate.proofs.Ran.{net-movable, bits-none, Running, running-start, turn-room, begun-bits, running-turn, running-end}
+use Rattle.simulate.proofs.Listed.{listed-within}
+use Rattle.simulate.proofs.Signals.{net-movable}
+use Rattle.simulate.proofs.Ran.{bits-none, Running, running-start, turn-room, begun-bits, running-turn, running-end}
 use native.Mathlib.Omega.{arith}
 use borrow.Author.Needs.{needs}
 use Rattle.simulate.proofs.running.clocks_of.Statement.{statement}
 use Rattle.simulate.proofs.running.clocks_of.Tie as tie
 
 abbrev Inv-loop : tie.InvT-loop
-Inv-loop clocks vectors out₀ net nodes edges inputs outputs gates node first sees truth index words₀ sig₀ taken₀ given₀ t₀ out words sig taken given t =
-    Running net clocks words₀ vectors out₀ t taken given (record { sig = sig; words = words; out = out })
+Inv-loop clocks vectors out₀ net l ins outs regs gates node first sees truth index words₀ sig₀ used₀ given₀ t₀ out words sig used given t =
+    Running net clocks words₀ vectors out₀ t used given (record { sig = sig; words = words; out = out })
 
 abbrev μ-loop : tie.MeasureT-loop
-μ-loop clocks vectors out₀ net nodes edges inputs outputs gates node first sees truth index words₀ sig₀ taken₀ given₀ t₀ out words sig taken given t =
+μ-loop clocks vectors out₀ net l ins outs regs gates node first sees truth index words₀ sig₀ used₀ given₀ t₀ out words sig used given t =
     clocks - t
 
 -- Places of a turn: where the plan was made, where the function began; the turn, from where it began its clock; that, from where its nodes are evaluated;
@@ -31,10 +35,10 @@ abbrev made : tie.In-loop Inv-loop μ-loop → tie.After-plan-of Inv-loop μ-loo
 made turn = turn .before .before .before .before .before .before .before
 
 abbrev start : tie.In-loop Inv-loop μ-loop → tie.Start Inv-loop μ-loop
-start turn = made turn .before .before .before .before .before
+start turn = made turn .before .before .before .before
 
 abbrev turn-of : tie.After-enter Inv-loop μ-loop → tie.In-loop Inv-loop μ-loop
-turn-of c = c .before .before .before .before .before .before
+turn-of c = c .before .before .before .before .before .before .before .before
 
 abbrev entered : tie.After-evaluate Inv-loop μ-loop → tie.After-enter Inv-loop μ-loop
 entered c = c .before .before .before .before .before .before .before .before
@@ -43,14 +47,14 @@ abbrev valued-at : tie.After-put-outputs Inv-loop μ-loop → tie.After-evaluate
 valued-at c = c .before .before .before .before .before .before .before
 
 abbrev put-at : tie.After-words2 Inv-loop μ-loop → tie.After-put-outputs Inv-loop μ-loop
-put-at c = c .before .before .before .before .before .before .before .before .before
+put-at c = c .before .before .before .before .before .before .before .before .before .before .before .before
 
 abbrev turn-moved : tie.After-words3 Inv-loop μ-loop → tie.In-loop Inv-loop μ-loop
 turn-moved c = turn-of (entered (valued-at (put-at (c .before .before))))
 
 -- What was lent has its rows.
-net-rows : (c : tie.Start Inv-loop μ-loop) → (length (c .args .t1 .kind) ≡ 512) × (length (c .args .t1 .from) ≡ 1024) × (length (c .args .t1 .count) ≡ 1024)
-net-rows c = (search needs, search needs, search needs)
+net-rows : (c : tie.Start Inv-loop μ-loop) → (length (c .args .t1 .from) ≡ 1024) × (length (c .args .t1 .count) ≡ 1024)
+net-rows c = (search needs, search needs)
 
 plan-rows : (c : tie.After-plan-of Inv-loop μ-loop) → Rows (c .plan-of .result)
 plan-rows c = record { node = search needs; first = search needs; sees = search needs; truth = search needs; index = search needs }
@@ -63,22 +67,31 @@ module _ (turn : tie.In-loop Inv-loop μ-loop) where
   plan = made turn .plan-of .result
 
   -- There is a vector left, and room for its outputs.
-  room : let l = turn .before .loop in (l .taken + inputs net ≤ length (start turn .args .vectors .now)) × (l .given + outputs net ≤ length (start turn .args .out .now)) × (l .given + outputs net ≤ length (l .out))
+  room : let l = turn .before .loop in (l .used + inputs net ≤ length (start turn .args .vectors .now)) × (l .given + outputs net ≤ length (start turn .args .out .now)) × (l .given + outputs net ≤ length (l .out))
   room = turn-room _ _ _ _ _ (start turn .pre) (turn .loop-test .taken) (turn .before .loop .inv)
 
-  counted : (made turn .before .before .count-kind .result ≡ inputs net) × (made turn .before .count-kind2 .result ≡ outputs net)
-  counted = (made turn .before .before .count-kind .ensures, made turn .before .count-kind2 .ensures)
+  abbrev lists : Lists
+  lists = made turn .before .lists-of .result
+
+  touched : Touched net lists
+  touched = made turn .before .lists-of .ensures
+
+  counted : (lists .ins ≡ inputs net) × (lists .outs ≡ outputs net)
+  unfolding earlier
+  counted = (touched .inputs .many, touched .outputs .many)
 
 -- The signals that the clock begins with.
 module _ (c : tie.After-enter Inv-loop μ-loop) where
   abbrev begun : List ℕ
-  begun = c .enter .last .1 .1 .1 .1 .1 .1 .0
+  begun = c .enter .last .1 .1 .1 .1 .1 .1 .1 .0
 
   begun-size : length begun ≡ 1536
-  begun-size = c .enter .kept .1 .1 .1 .1 .1 .1 .0 ∙ turn-of c .before .loop .inv .sig-size
+  begun-size = c .enter .kept .1 .1 .1 .1 .1 .1 .1 .0 ∙ turn-of c .before .loop .inv .sig-size
 
   begun-are-bits : AllBits begun
-  begun-are-bits = let turn = turn-of c in begun-bits _ _ _ _ _ (start turn .pre) (turn .loop-test .taken) (turn .before .loop .inv) _ (c .enter .ensures)
+  begun-are-bits =
+      let turn = turn-of c in
+      begun-bits _ _ _ _ _ (start turn .pre) (turn .loop-test .taken) (turn .before .loop .inv) (lists turn) _ (c .enter .ensures)
 
 -- The signals once each node of the plan is evaluated by its gate.
 module _ (c : tie.After-evaluate Inv-loop μ-loop) where
@@ -97,40 +110,32 @@ module _ (c : tie.After-evaluate Inv-loop μ-loop) where
   valued-bits : AllBits sig
   valued-bits = let p = plan turn in subst AllBits (sym valued) (evaluated-bits (net turn .kind) (p .node) (p .first) (p .sees) 0 _ (p .gates) (begun-are-bits (entered c)))
 
-cast-nodes : tie.Need-cast-nodes Inv-loop μ-loop
-cast-nodes c = search needs
-
-cast-edges : tie.Need-cast-edges Inv-loop μ-loop
-cast-edges c = search needs
-
-count-kind-requires : tie.Need-count-kind-requires Inv-loop μ-loop
-count-kind-requires c κs = fit-rows _ (c .before .before .pre .steppable .fit) .0
-
-count-kind-requires-2 : tie.Need-count-kind-requires-2 Inv-loop μ-loop
-count-kind-requires-2 c κs = fit-rows _ (c .before .before .before .pre .steppable .fit) .0
+lists-of-requires : tie.Need-lists-of-requires Inv-loop μ-loop
+lists-of-requires c κs = let r = fit-rows _ (c .before .before .pre .steppable .fit) in (r .0, r .1)
 
 plan-of-requires : tie.Need-plan-of-requires Inv-loop μ-loop
-plan-of-requires c κs = let k = c .before .before .before .before .pre .steppable in (k .fit, (k .fans, k .no-loop))
+plan-of-requires c κs = let k = c .before .before .before .pre .steppable in (k .fit, (k .fans, k .no-loop))
 
 loop-holds : tie.Need-loop-holds Inv-loop μ-loop
-loop-holds c = running-start _ _ _ _ _ (c .before .before .before .before .before .before .before .before .before .before .pre) (search needs) _ refl bits-none
+loop-holds c = running-start _ _ _ _ _ (c .before .before .before .before .before .before .before .before .before .pre) (search needs) _ refl bits-none
 
 slice-aggregate-enter : tie.Need-slice-aggregate-enter Inv-loop μ-loop
-slice-aggregate-enter c = sym (c .before .before .before .before .before .loop .inv .words-size)
+slice-aggregate-enter c = sym (c .before .before .before .before .before .before .before .loop .inv .words-size)
 
 slice-aggregate-enter-2 : tie.Need-slice-aggregate-enter-2 Inv-loop μ-loop
-slice-aggregate-enter-2 c = sym (c .before .before .before .before .before .before .loop .inv .sig-size)
+slice-aggregate-enter-2 c = sym (c .before .before .before .before .before .before .before .before .loop .inv .sig-size)
 
 enter-requires : tie.Need-enter-requires Inv-loop μ-loop
-unfolding earlier
 enter-requires c κs =
-    let turn = c .before .before .before .before .before in
+    let turn = c .before .before .before .before .before .before .before in
     let inv = turn .before .loop .inv in
-    let r = fit-rows (net turn) (start turn .pre .steppable .fit) in
-    ((r .0, omega (arith, r .0, net-rows (start turn) .0), room turn .0), (omega (arith, r .1, inv .words-size), omega (arith, r .1, inv .sig-size)))
+    let r = fit-rows (net turn) (start turn .pre .steppable .fit) in (
+      (listed-within (touched turn .inputs) _ (omega (arith, r .0, inv .sig-size)), omega (arith, room turn .0, counted turn .0)),
+      (listed-within (touched turn .registers) _ (omega (arith, r .1, inv .words-size)), omega (arith, inv .words-size, inv .sig-size)),
+    )
 
 slice-aggregate-evaluate : tie.Need-slice-aggregate-evaluate Inv-loop μ-loop
-slice-aggregate-evaluate c = search needs
+slice-aggregate-evaluate c = sym (plan-rows (made (turn-of (c .before .before))) .node)
 
 slice-aggregate-evaluate-2 : tie.Need-slice-aggregate-evaluate-2 Inv-loop μ-loop
 slice-aggregate-evaluate-2 c = sym (plan-rows (made (turn-of (c .before .before .before))) .truth)
@@ -157,12 +162,10 @@ slice-aggregate-put-outputs : tie.Need-slice-aggregate-put-outputs Inv-loop μ-l
 slice-aggregate-put-outputs c = search needs
 
 put-outputs-requires : tie.Need-put-outputs-requires Inv-loop μ-loop
-unfolding earlier
 put-outputs-requires c κs =
     let v = c .before .before .before .before .before .before in
-    let s = start (turn v) in
-    let r = fit-rows (net (turn v)) (s .pre .steppable .fit) in
-    (omega (arith, r .0, net-rows s .0), omega (arith, r .0, valued-size v), room (turn v) .2)
+    let r = fit-rows (net (turn v)) (start (turn v) .pre .steppable .fit) in
+    (listed-within (touched (turn v) .outputs) _ (omega (arith, r .0, valued-size v)), omega (arith, room (turn v) .2, counted (turn v) .1))
 
 slice-aggregate-shift : tie.Need-slice-aggregate-shift Inv-loop μ-loop
 slice-aggregate-shift c = search needs
@@ -175,10 +178,10 @@ shift-requires c κs =
     let v = valued-at (put-at c) in
     let s = start (turn v) in
     let l = turn v .before .loop in
-    (net-movable (net (turn v)) (s .pre .steppable) (net-rows s .1, net-rows s .2) (l .words) (sig v) (l .inv .words-size) (valued-size v) (l .inv .fits), valued-bits v)
+    (net-movable _ (lists (turn v)) (touched (turn v)) (s .pre .steppable) (net-rows s) (l .words) _ (l .inv .words-size) (omega (arith, valued-size v)) (l .inv .fits), valued-bits v)
 
-add-taken : tie.Need-add-taken Inv-loop μ-loop
-add-taken c = let turn = turn-moved c in omega (arith, room turn .0, counted turn .0, start turn .good)
+add-used : tie.Need-add-used Inv-loop μ-loop
+add-used c = let turn = turn-moved c in omega (arith, room turn .0, counted turn .0, start turn .good)
 
 add-given : tie.Need-add-given Inv-loop μ-loop
 add-given c = let turn = turn-moved c in omega (arith, room turn .1, counted turn .1, start turn .good)
@@ -194,10 +197,11 @@ loop-again c =
     let put = put-at (c .before .before) in
     let v = valued-at put in
     let l = turn v .before .loop in
-    running-turn _ _ _ _ _ (start (turn v) .pre) (turn v .loop-test .taken) (l .inv) _ (made (turn v) .plan-of .ensures) _ _
-    (ap (λ k. l .taken + k) (counted (turn v) .0)) (ap (λ k. l .given + k) (counted (turn v) .1)) _ record {
+    running-turn _ _ _ _ _ (start (turn v) .pre) (turn v .loop-test .taken) (l .inv) _ (made (turn v) .plan-of .ensures) _ (touched (turn v)) _ _
+    (ap (λ k. l .used + k) (counted (turn v) .0)) (ap (λ k. l .given + k) (counted (turn v) .1)) _ record {
+      sig-rows = l .inv .sig-size;
+      words-rows = l .inv .words-size;
       begun = begun (entered v);
-      size = begun-size (entered v);
       begins = entered v .enter .ensures;
       evaluates = valued v;
       puts = put .put-outputs .ensures;
@@ -208,7 +212,7 @@ same-length : tie.Need-same-length Inv-loop μ-loop
 same-length c = let l = c .before .loop in ap length (l .inv .puts) ∙ length-sets _ 0 (l .inv .done)
 
 returns : tie.Need-returns Inv-loop μ-loop
-returns c = running-end _ _ _ _ _ (c .before .before .before .before .before .before .before .before .before .before .before .before .pre) _ _ _ _ (c .loop-test .left) (c .before .loop .inv)
+returns c = running-end _ _ _ _ _ (c .before .before .before .before .before .before .before .before .before .before .before .pre) _ _ _ _ (c .loop-test .left) (c .before .loop .inv)
 
 pub clocks-of-spec : {M : Type 1} → statement M
 clocks-of-spec =
@@ -216,10 +220,7 @@ clocks-of-spec =
     (tie.spec
     Inv-loop
     μ-loop
-    cast-nodes
-    cast-edges
-    count-kind-requires
-    count-kind-requires-2
+    lists-of-requires
     plan-of-requires
     loop-holds
     slice-aggregate-enter
@@ -237,7 +238,7 @@ clocks-of-spec =
     slice-aggregate-shift
     slice-aggregate-shift-2
     shift-requires
-    add-taken
+    add-used
     add-given
     add-t
     loop-less

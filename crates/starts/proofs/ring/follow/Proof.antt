@@ -9,9 +9,10 @@ use Rattle.graph.specs.Columns.{at}
 use Rattle.netlist.proofs.Run.{fit-rows}
 use Rattle.netlist.proofs.Lowest.{kind-low, laid}
 use Rattle.graph.proofs.Laws.{loop-kinds}
-use Rattle.starts.proofs.Entering.{entering}
+use Rattle.simulate.proofs.Seen.{entering}
 use Rattle.starts.proofs.Held.{held-end}
-use Rattle.starts.proofs.Followed.{Following, following-start, following-list, following-turns, following-evaluable, following-truths, following-next}
+use Rattle.starts.proofs.Turned.{strides-some}
+use Rattle.starts.proofs.Followed.{Following, following-start, following-list, following-turns, following-strides, following-takes, following-truths, following-next}
 use Rattle.starts.proofs.ring.follow.Statement.{statement}
 use Rattle.starts.proofs.ring.follow.Tie as tie
 
@@ -24,10 +25,10 @@ abbrev μ-loop : tie.MeasureT-loop
     clocks - s
 
 -- The stages before the loop, and those of a turn.
-abbrev made-ring : tie.After-by-rank Inv-loop μ-loop → tie.After-empty Inv-loop μ-loop
+abbrev made-ring : tie.After-evaluation-order Inv-loop μ-loop → tie.After-empty Inv-loop μ-loop
 made-ring c = c .before .before .before .before .before .before .before .before
 
-abbrev ranked : tie.After-sort-by Inv-loop μ-loop → tie.After-by-rank Inv-loop μ-loop
+abbrev ranked : tie.After-sort-by Inv-loop μ-loop → tie.After-evaluation-order Inv-loop μ-loop
 ranked c = c .before .before .before .before .before .before
 
 abbrev entering-sorted : tie.After-put-truths Inv-loop μ-loop → tie.After-sort-by Inv-loop μ-loop
@@ -36,22 +37,25 @@ entering-sorted c = c .before .before .before .before .before .before .before .b
 abbrev start : tie.After-sort-by Inv-loop μ-loop → tie.Start Inv-loop μ-loop
 start c = made-ring (ranked c) .before .before
 
-abbrev before-loop : tie.In-loop Inv-loop μ-loop → tie.After-sort-by Inv-loop μ-loop
-before-loop t = entering-sorted (t .before .before .before .before)
-
 abbrev refreshed : tie.After-turn Inv-loop μ-loop → tie.After-refresh Inv-loop μ-loop
 refreshed c = c .before .before .before .before .before .before .before .before .before .before .before .before .before
 
-abbrev turned : tie.After-evaluate Inv-loop μ-loop → tie.After-turn Inv-loop μ-loop
-turned c = c .before .before .before .before .before .before .before .before
+abbrev turned : tie.After-stride Inv-loop μ-loop → tie.After-turn Inv-loop μ-loop
+turned c = c .before .before .before .before .before .before .before .before .before .before
 
-abbrev turn-of : tie.After-turn Inv-loop μ-loop → tie.In-loop Inv-loop μ-loop
-turn-of c = refreshed c .before .before
+abbrev strode : tie.After-take Inv-loop μ-loop → tie.After-stride Inv-loop μ-loop
+strode c = c .before .before .before .before .before .before .before
 
-net-rows : (c : tie.Start Inv-loop μ-loop) → (length (c .args .t1 .from) ≡ 1024) × (length (c .args .t1 .count) ≡ 1024) × (length (c .args .t1 .start) ≡ 1024)
-net-rows c = (search needs, search needs, search needs)
+abbrev turn-of : tie.After-stride Inv-loop μ-loop → tie.In-loop Inv-loop μ-loop
+turn-of c = refreshed (turned c) .before .before
 
-list-rows : (c : tie.After-by-rank Inv-loop μ-loop) → length (c .by-rank .result) ≡ 512
+net-rows : (c : tie.Start Inv-loop μ-loop) → (length (c .args .t1 .from) ≡ 1024) × (length (c .args .t1 .count) ≡ 1024) × (length (c .args .t1 .start) ≡ 1024) × (length (c .args .t1 .to) ≡ 1024)
+net-rows c = (search needs, search needs, search needs, search needs)
+
+index-rows : (c : tie.After-index-table Inv-loop μ-loop) → length (c .index-table .result) ≡ 256
+index-rows c = search needs
+
+list-rows : (c : tie.After-evaluation-order Inv-loop μ-loop) → length (c .evaluation-order .result) ≡ 512
 list-rows c = search needs
 
 ring-rows : (c : tie.After-empty Inv-loop μ-loop) → length (c .empty .result) ≡ 32770
@@ -66,8 +70,8 @@ cast-edges c = search needs
 empty-requires : tie.Need-empty-requires Inv-loop μ-loop
 empty-requires c κs = search needs
 
-by-rank-requires : tie.Need-by-rank-requires Inv-loop μ-loop
-by-rank-requires c κs =
+evaluation-order-requires : tie.Need-evaluation-order-requires Inv-loop μ-loop
+evaluation-order-requires c κs =
     let s = c .before .before .before .before .before .before .before .before .before in
     let net = s .args .t1 in
     let ok = s .pre .0 in (
@@ -96,7 +100,7 @@ put-truths-requires c κs =
     let s = start b in
     let net = s .args .t1 in
     let few = fit-rows net (s .pre .0 .fit) in
-    let en = entering net (s .pre .0) (omega (arith, few .1)) (b .sort-by .ensures) in (
+    let en = entering net (s .pre .0 .fit) (s .pre .0 .fans) (omega (arith, few .1)) (b .sort-by .ensures) in (
       (omega (arith, few .0), omega (arith, few .0, b .sort-by .kept .1 .1 .1 .1 .0), omega (arith, few .0)),
       λ i h. (kind-low net (s .pre .0 .fit) i h, en .rising i h, en .few i h),
     )
@@ -118,12 +122,12 @@ loop-holds c =
       steppable = s .pre .0;
       labelled = s .pre .1;
       net-rows = net-rows s;
-      rows = (b .kept .1 .1 .1 .0, b .kept .1 .1 .1 .1 .0, p .kept .1 .1 .1 .0);
-      entering = entering net (s .pre .0) (omega (arith, few .1)) (b .ensures);
+      rows = (b .kept .1 .1 .1 .0, b .kept .1 .1 .1 .1 .0, p .kept .1 .1 .1 .0, index-rows c);
+      entering = entering net (s .pre .0 .fit) (s .pre .0 .fans) (omega (arith, few .1)) (b .ensures);
       truths = p .ensures;
       table = c .index-table .ensures;
     })
-    (s .pre .2) _ _ _ (list-rows (ranked d)) refl (ring-rows r) (r .empty .ensures) (ranked d .by-rank .ensures)
+    (s .pre .2) _ _ _ (list-rows (ranked d)) refl (ring-rows r) (r .empty .ensures) (ranked d .evaluation-order .ensures)
 
 slice-aggregate-refresh : tie.Need-slice-aggregate-refresh Inv-loop μ-loop
 slice-aggregate-refresh c = sym (c .before .before .loop .inv .list-rows)
@@ -150,49 +154,57 @@ turn-requires c κs =
     let t = following-turns _ _ _ _ _ _ _ _ _ _ _ _ (turn .before .loop .inv) (turn .loop-test .taken) _ _ (r .ensures) (r .kept .1 .1 .0) in
     (t .0, (t .1, t .2))
 
-mul-row : tie.Need-mul-row Inv-loop μ-loop
-mul-row c = search needs
+slice-aggregate-stride : tie.Need-slice-aggregate-stride Inv-loop μ-loop
+slice-aggregate-stride c = search needs
 
-slice-aggregate-evaluate : tie.Need-slice-aggregate-evaluate Inv-loop μ-loop
-slice-aggregate-evaluate c = search needs
-
-slice-aggregate-evaluate-2 : tie.Need-slice-aggregate-evaluate-2 Inv-loop μ-loop
-slice-aggregate-evaluate-2 c = search needs
-
-slice-aggregate-evaluate-3 : tie.Need-slice-aggregate-evaluate-3 Inv-loop μ-loop
-slice-aggregate-evaluate-3 c = search needs
-
-slice-aggregate-evaluate-4 : tie.Need-slice-aggregate-evaluate-4 Inv-loop μ-loop
-slice-aggregate-evaluate-4 c = search needs
-
-slice-aggregate-evaluate-5 : tie.Need-slice-aggregate-evaluate-5 Inv-loop μ-loop
-slice-aggregate-evaluate-5 c = search needs
-
-slice-aggregate-evaluate-6 : tie.Need-slice-aggregate-evaluate-6 Inv-loop μ-loop
-slice-aggregate-evaluate-6 c = sym (turn-of (c .before .before .before .before .before .before .before) .before .loop .inv .held .size)
-
-evaluate-requires : tie.Need-evaluate-requires Inv-loop μ-loop
-evaluate-requires c κs =
-    let d = c .before .before .before .before .before .before .before in
-    let turn = turn-of d in
+stride-requires : tie.Need-stride-requires Inv-loop μ-loop
+stride-requires c κs =
+    let d = c .before .before .before .before .before .before .before .before .before in
+    let turn = refreshed d .before .before in
     let r = refreshed d .refresh in
-    let t = d .turn in
-    following-evaluable _ _ _ _ _ _ _ _ _ _ _ _ (turn .before .loop .inv) (turn .loop-test .taken) _ _ (r .ensures) (r .kept .1 .1 .0) _ (t .kept .1 .1 .1 .1 .1 .1 .1 .1 .1 .0) (t .ensures)
+    let k = following-strides _ _ _ _ _ _ _ _ _ _ _ _ (turn .before .loop .inv) (turn .loop-test .taken) _ _ (r .ensures) (r .kept .1 .1 .0) in
+    (k .0, (k .1, k .2))
+
+slice-aggregate-take : tie.Need-slice-aggregate-take Inv-loop μ-loop
+slice-aggregate-take c = search needs
+
+slice-aggregate-take-2 : tie.Need-slice-aggregate-take-2 Inv-loop μ-loop
+slice-aggregate-take-2 c = sym (turn-of (c .before .before) .before .loop .inv .ready .rows .2)
+
+slice-aggregate-take-3 : tie.Need-slice-aggregate-take-3 Inv-loop μ-loop
+slice-aggregate-take-3 c = sym (turn-of (c .before .before .before) .before .loop .inv .ready .rows .3)
+
+slice-aggregate-take-4 : tie.Need-slice-aggregate-take-4 Inv-loop μ-loop
+slice-aggregate-take-4 c = sym (turn-of (c .before .before .before .before) .before .loop .inv .ready .rows .1)
+
+slice-aggregate-take-5 : tie.Need-slice-aggregate-take-5 Inv-loop μ-loop
+slice-aggregate-take-5 c = search needs
+
+slice-aggregate-take-6 : tie.Need-slice-aggregate-take-6 Inv-loop μ-loop
+slice-aggregate-take-6 c = sym (turn-of (c .before .before .before .before .before .before) .before .loop .inv .held .size)
+
+take-requires : tie.Need-take-requires Inv-loop μ-loop
+take-requires c κs =
+    let b = c .before .before .before .before .before .before in
+    let turn = turn-of b in
+    let r = refreshed (turned b) .refresh in
+    let t = turned b .turn in
+    following-takes _ _ _ _ _ _ _ _ _ _ _ _ (turn .before .loop .inv) (turn .loop-test .taken) _ _ (r .ensures) (r .kept .1 .1 .0) _ (t .kept .1 .1 .1 .1 .1 .1 .1 .1 .1 .0) (t .ensures) _ (b .stride .ensures)
 
 add-s : tie.Need-add-s Inv-loop μ-loop
-add-s c = let turn = turn-of (turned (c .before)) in omega (arith, turn .loop-test .taken, turn .before .loop .inv .clocks-low)
+add-s c = let b = strode (c .before) in omega (arith, turn-of b .loop-test .taken, turn-of b .before .loop .inv .clocks-low, strides-some (b .stride .ensures) .1)
 
 loop-less : tie.Need-loop-less Inv-loop μ-loop
-loop-less c = omega (arith, turn-of (turned (c .before)) .loop-test .taken)
+loop-less c = let b = strode (c .before) in omega (arith, turn-of b .loop-test .taken, strides-some (b .stride .ensures) .0)
 
 loop-again : tie.Need-loop-again Inv-loop μ-loop
 loop-again c =
-    let d = turned (c .before) in
-    let turn = turn-of d in
-    let r = refreshed d .refresh in
-    let t = d .turn in
-    following-next _ _ _ _ _ _ _ _ _ _ _ _ (turn .before .loop .inv) (turn .loop-test .taken) _ _ (r .ensures) (r .kept .1 .1 .0) _ (t .kept .1 .1 .1 .1 .1 .1 .1 .1 .1 .0) (t .ensures) _
-    (c .before .evaluate .ensures (start (before-loop turn) .args .t1 .kind) (following-truths _ _ _ _ _ _ _ _ _ _ _ _ (turn .before .loop .inv) (turn .loop-test .taken) _ _ (r .ensures) (r .kept .1 .1 .0)))
+    let b = strode (c .before) in
+    let turn = turn-of b in
+    let r = refreshed (turned b) .refresh in
+    let t = turned b .turn in
+    following-next _ _ _ _ _ _ _ _ _ _ _ _ (turn .before .loop .inv) (turn .loop-test .taken) _ _ (r .ensures) (r .kept .1 .1 .0) _ (t .kept .1 .1 .1 .1 .1 .1 .1 .1 .1 .0) (t .ensures) _ (b .stride .ensures) _
+    (c .before .take .ensures _ (following-truths _ _ _ _ _ _ _ _ _ _ _ _ (turn .before .loop .inv) (turn .loop-test .taken) _ _ (r .ensures) (r .kept .1 .1 .0)))
 
 returns : tie.Need-returns Inv-loop μ-loop
 returns c = let s = start (entering-sorted (c .before .before .before .before)) in held-end (s .args .t1) (now (s .args .lab)) _ _ (λ v h. omega (arith, s .pre .3 v h, c .loop-test .left)) (c .before .loop .inv .held)
@@ -206,7 +218,7 @@ follow-spec =
     cast-nodes
     cast-edges
     empty-requires
-    by-rank-requires
+    evaluation-order-requires
     slice-aggregate-sort-by
     slice-aggregate-sort-by-2
     sort-by-requires
@@ -222,14 +234,15 @@ follow-spec =
     slice-aggregate-turn-3
     slice-aggregate-turn-4
     turn-requires
-    mul-row
-    slice-aggregate-evaluate
-    slice-aggregate-evaluate-2
-    slice-aggregate-evaluate-3
-    slice-aggregate-evaluate-4
-    slice-aggregate-evaluate-5
-    slice-aggregate-evaluate-6
-    evaluate-requires
+    slice-aggregate-stride
+    stride-requires
+    slice-aggregate-take
+    slice-aggregate-take-2
+    slice-aggregate-take-3
+    slice-aggregate-take-4
+    slice-aggregate-take-5
+    slice-aggregate-take-6
+    take-requires
     add-s
     loop-less
     loop-again
