@@ -61,7 +61,6 @@ pub fn chosen_on(count: u32, lag: u32) -> u32
 // How many values are chosen on the edges before each edge, and at the end on all.
 pub fn chosen(net: Netlist, lab: &[u32], counts: &[u32]) -> [u32; EDGES + 1]
     requires { ⌜ Labelled net (now lab) × Counts net (now lab) (now counts) × (net .edges ≤ length (now counts)) ⌝ }
-    requires { ⌜ ((e : ℕ) → e < net .edges → at (now counts) e ≤ 32) ⌝ }
     ensures { λ r. ⌜ Bases net (now (lab .entry)) r ⌝ }
 {
     let edges = net.edges as usize;

@@ -97,7 +97,7 @@ slice-aggregate-chosen c = search needs
 chosen-requires : tie.Need-chosen-requires
 chosen-requires c κs =
     let n = c .before .before .before .before in
-    ((n .before .before .before .pre .0 .3, n .new-counts .ensures, count-rows n), low-counts (c .before))
+    (n .before .before .before .pre .0 .3, n .new-counts .ensures, count-rows n)
 
 mul-k : tie.Need-mul-k
 mul-k c = search needs

@@ -1,4 +1,4 @@
--- `moves::counts::chosen` meets its contract: the sums up to e are filled, and each edge adds at most 32.
+-- `moves::counts::chosen` meets its contract: the sums up to e are filled, and each edge adds at most the lag of the node that it enters, so at most 16,384.
 use Prim.Native.Nat.{ℕ, _+_, _*_, _-_, _≤_, _<_}
 use mathlib.Core.Path.{_≡_, refl, sym, ap₂, _∙_}
 use native.Mathlib.Omega.{arith}
@@ -8,6 +8,7 @@ use borrow.Author.Needs.{needs}
 use Rattle.theory.specs.Move.{sum}
 use Rattle.graph.specs.Columns.{at}
 use Rattle.graph.proofs.Fills.{fill-more}
+use Rattle.lags.proofs.Laws.{lag-up}
 use Rattle.moves.specs.inner.Labels.{chosenAt}
 use Rattle.moves.proofs.Labels.{to-node, low-edge, base-none, chosen-is}
 use Rattle.theory.proofs.numbers.Sums.{sum-none, sum-more}
@@ -16,7 +17,7 @@ use Rattle.moves.proofs.counts.chosen.Tie as tie
 
 abbrev Inv-loop : tie.InvT-loop
 Inv-loop lab counts net edges base₀ total₀ e₀ base total e =
-    (e ≤ edges) × (length base ≡ 1025) × (total ≤ 32 * e) × (total ≡ sum (chosenAt net lab) e) × ((k : ℕ) → k < e + 1 → at base k ≡ sum (chosenAt net lab) k)
+    (e ≤ edges) × (length base ≡ 1025) × (total ≤ 16384 * e) × (total ≡ sum (chosenAt net lab) e) × ((k : ℕ) → k < e + 1 → at base k ≡ sum (chosenAt net lab) k)
 
 abbrev μ-loop : tie.MeasureT-loop
 μ-loop lab counts net edges base₀ total₀ e₀ base total e = edges - e
@@ -31,10 +32,10 @@ mul-v : tie.Need-mul-v Inv-loop μ-loop
 mul-v c = search needs
 
 low : (c : tie.In-loop Inv-loop μ-loop) → c .before .loop .e < 1024
-low c = low-edge (c .before .before .before .before .args .t1) (now (c .before .before .before .before .args .lab)) (c .before .before .before .before .pre .0 .0) (c .before .loop .e) (c .loop-test .taken)
+low c = low-edge (c .before .before .before .before .args .t1) (now (c .before .before .before .before .args .lab)) (c .before .before .before .before .pre .0) (c .before .loop .e) (c .loop-test .taken)
 
 end : (c : tie.In-loop Inv-loop μ-loop) → at (c .before .before .before .before .args .t1 .to) (c .before .loop .e) < c .before .before .before .before .args .t1 .nodes
-end c = to-node (c .before .before .before .before .args .t1) (now (c .before .before .before .before .args .lab)) (c .before .before .before .before .pre .0 .0) (c .before .loop .e) (c .loop-test .taken)
+end c = to-node (c .before .before .before .before .args .t1) (now (c .before .before .before .before .args .lab)) (c .before .before .before .before .pre .0) (c .before .loop .e) (c .loop-test .taken)
 
 element-copy-out-v : tie.Need-element-copy-out-v Inv-loop μ-loop
 element-copy-out-v c = omega (arith, low c)
@@ -49,10 +50,10 @@ shared-slice-read-chosen-on : tie.Need-shared-slice-read-chosen-on Inv-loop μ-l
 shared-slice-read-chosen-on c = search needs
 
 mul-up-of : tie.Need-mul-up-of Inv-loop μ-loop
-mul-up-of c = omega (arith, end (c .before .before), c .before .before .before .before .before .before .pre .0 .0 .rows)
+mul-up-of c = omega (arith, end (c .before .before), c .before .before .before .before .before .before .pre .0 .rows)
 
 shared-slice-read-up-of : tie.Need-shared-slice-read-up-of Inv-loop μ-loop
-shared-slice-read-up-of c = omega (arith, end (c .before .before .before), c .before .before .before .before .before .before .before .pre .0 .0 .rows)
+shared-slice-read-up-of c = omega (arith, end (c .before .before .before), c .before .before .before .before .before .before .before .pre .0 .rows)
 
 up-of-requires : tie.Need-up-of-requires Inv-loop μ-loop
 up-of-requires c κs = search needs
@@ -60,8 +61,12 @@ up-of-requires c κs = search needs
 chosen-on-requires : tie.Need-chosen-on-requires Inv-loop μ-loop
 chosen-on-requires c κs = search needs
 
-few : (c : tie.After-chosen-on Inv-loop μ-loop) → c .chosen-on .result ≤ 32
-few c = omega (arith, c .chosen-on .ensures, c .before .before .before .before .before .before .before .before .before .pre .1 (c .before .before .before .before .before .before .loop .e) (c .before .before .before .before .before .loop-test .taken))
+few : (c : tie.After-chosen-on Inv-loop μ-loop) → c .chosen-on .result ≤ 16384
+few c =
+    let turn = c .before .before .before .before .before in
+    let s = turn .before .before .before .before in
+    let v = at (s .args .t1 .to) (turn .before .loop .e) in
+    omega (arith, c .chosen-on .ensures, c .before .up-of .ensures, lag-up (at (now (s .args .lab)) v), s .pre .0 .small v (end turn))
 
 add-total : tie.Need-add-total Inv-loop μ-loop
 add-total c = omega (arith, few c, low (c .before .before .before .before .before))
@@ -84,7 +89,7 @@ loop-again c =
     let l = c .before .before .before .before .before .before .loop in
     let f : ℕ → ℕ = chosenAt (a .t1) (now (a .lab)) in
     let q : l .total + c .chosen-on .result ≡ sum f (l .e + 1) =
-    ap₂ _+_ (l .inv .3) (chosen-is (a .t1) (now (a .lab)) (now (a .counts)) (c .before .before .before .before .before .before .before .before .before .pre .0 .1) (l .e) (c .before .before .before .before .before .loop-test .taken) (c .chosen-on .result) (c .before .up-of .result) (c .before .up-of .ensures) (c .chosen-on .ensures))
+    ap₂ _+_ (l .inv .3) (chosen-is (a .t1) (now (a .lab)) (now (a .counts)) (c .before .before .before .before .before .before .before .before .before .pre .1) (l .e) (c .before .before .before .before .before .loop-test .taken) (c .chosen-on .result) (c .before .up-of .result) (c .before .up-of .ensures) (c .chosen-on .ensures))
     ∙ sym (sum-more f (l .e)) in (
       omega arith,
       length-set (l .base) (l .e + 1) (l .total + c .chosen-on .result) ∙ l .inv .1,
