@@ -35,6 +35,13 @@ struct retimer_machine {
     uint32_t words[RETIMER_EDGES];
 };
 
+/* What the least retiming at the period of a quote comes to. */
+struct retimer_figures {
+    uint32_t registers; /* the register total */
+    uint32_t largest;   /* the largest count on an edge; above 32 retiming at that period is refused 9 */
+    uint32_t number;    /* how many start values are to be chosen; above 24 it is refused 10, if not 9 */
+};
+
 /* An answer is the number that its call names, or a refusal: the number of a rule and a place. */
 typedef uint64_t retimer_answer;
 
@@ -76,6 +83,11 @@ retimer_answer retimer_run(const uint8_t *text, size_t text_len, const uint8_t *
  * Gives how many start values were chosen. Refuses with 1 to 7, then 12, 8 to 11. */
 retimer_answer retimer_retime(const uint8_t *text, size_t text_len, uint8_t *out, size_t out_len,
                               int32_t *lags, size_t lags_len);
+
+/* Finds the smallest period that retiming would not refuse 8, whatever the period in the text's own head, and puts into `figures` what
+ * the least retiming at that period comes to. No start is sought and no text is written.
+ * Gives the period, 1 to 65,535. Refuses with 1 to 7, then 8 where 65,535 would be refused 8. */
+retimer_answer retimer_quote(const uint8_t *text, size_t text_len, struct retimer_figures *figures);
 
 /* Reads a text and writes it again at the front of `out`.
  * Gives how many bytes it wrote. Refuses with 1 to 7, then 12. */

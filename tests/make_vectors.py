@@ -15,6 +15,7 @@ from collections import Counter
 from collections.abc import Callable
 from pathlib import Path
 
+import quoting_cases as quoting
 import reading_cases as reading
 import retiming_cases as retiming
 import running_cases as running
@@ -38,7 +39,7 @@ def listing_run() -> tuple[bytes, bytes]:
 
 
 def batch_run() -> tuple[bytes, bytes]:
-    """The program batch: texts to read and write again, then texts to list, then runs."""
+    """The program batch: texts to read and write again, then texts to list, then runs, then quotes."""
     given, printed = [], []
     for name, cases in reading.reading_cases(SEED).items():
         given += [job(0, case.text) for case in cases]
@@ -49,6 +50,9 @@ def batch_run() -> tuple[bytes, bytes]:
     for name, cases in running.running_cases(SEED).items():
         given += [job(8, case.text, case.vectors, case.room) for case in cases]
         printed += told("run", name, [running.expected(case) for case in cases])
+    for name, cases in quoting.quoting_cases(SEED).items():
+        given += [job(9, case.text) for case in cases]
+        printed += told("quote", name, [quoting.expected(case) for case in cases])
     return b"".join(given), b"".join(printed)
 
 

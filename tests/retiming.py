@@ -7,8 +7,10 @@ takes all choices at once, as words with one bit per choice; and a value at a cl
 only where a start value hangs on it, so that an input asked for would show as an error.
 
   working_delay           delay times derate, rounded
+  critical_chains         the chains that decide: fewest registers, and of these the longest
   constraints, least_lags the legal retimings that meet the period, and the least of them
-  moved_counts            "each edge's new count w + r(v) - r(u)"
+  moved_counts, rewired   "each edge's new count w + r(v) - r(u)"; the netlist with these
+  longest_chain           what a period must be to be met
   chosen_values           the start values with s below 0, in the order of their places
   wanted_values           what a choice must give to carry the start
   Values                  values of nodes at clocks, a bit per choice
@@ -22,14 +24,14 @@ Python 3.9 or later, standard library only. `python3 -m doctest tests/retiming.p
 from __future__ import annotations
 
 from collections import deque
-from collections.abc import Callable, Sequence
+from collections.abc import Callable, Iterator, Sequence
 from dataclasses import dataclass, replace
 from heapq import heappop, heappush
 from struct import Struct
 
 from reference import (
     AND, EDGE, INPUT, INVERTER, NAND, NOR, OR, OUTPUT, XNOR, Edge, Netlist, Node, Refusal,
-    evaluation_order, frame_line, read, text_of,
+    evaluation_order, frame_line, in_edges, read, text_of,
 )
 
 # --- The least lags -----------------------------------------------------------------------------
@@ -44,17 +46,13 @@ def working_delay(node: Node, derate: int) -> int:
     return (node.delay * derate + 50) // 100
 
 
-def constraints(net: Netlist) -> list[list[tuple[int, int]]]:
-    """For each node u the pairs (v, c) that ask for r(u) - r(v) <= c.
+def critical_chains(net: Netlist, limit: float) -> Iterator[dict[int, tuple[int, int]]]:
+    """For each node u, of each node v that it leads to: the fewest registers on a chain from u to v, and
+    how long the longest of the chains is that have so few.
 
-    An edge asks for c = w: its new count is 0 or more. A chain from u to v that is longer than the
-    period asks for c = its registers - 1: one of them at least stays on it. Of the chains from u
-    to v one with the fewest registers asks for most, and among these the longest decides; a chain
-    is followed up to the first node that makes it longer than the period, since what its further
-    nodes ask for follows from that and from the edges.
-
-    Nodes are taken by fewest registers and then in evaluation order: then all that bears on a
-    node's longest chain has been taken before it.
+    A chain is followed up to the first node that makes it longer than the limit. Nodes are taken by
+    fewest registers and then in evaluation order: then all that bears on a node's longest chain has
+    been taken before it.
     """
     delays = [working_delay(node, net.derate) for node in net.nodes]
     place = {v: i for i, v in enumerate(evaluation_order(net))}
@@ -62,21 +60,16 @@ def constraints(net: Netlist) -> list[list[tuple[int, int]]]:
     for edge in net.edges:
         leaving[edge.source].append(edge)
 
-    asked: list[list[tuple[int, int]]] = []
     for u in range(len(net.nodes)):
-        asks = [(edge.target, edge.count) for edge in leaving[u]]
-        best = {u: (0, delays[u])}  # fewest registers, and the longest chain that has them
+        best = {u: (0, delays[u])}
         waiting = [(0, place[u], u)]
         done = set()
         while waiting:
             registers, _, v = heappop(waiting)
-            if v in done:
+            length = best[v][1]
+            if v in done or length > limit:
                 continue
             done.add(v)
-            length = best[v][1]
-            if length > net.period:
-                asks.append((v, registers - 1))
-                continue
             for edge in leaving[v]:
                 there, count = edge.target, registers + edge.count
                 reach = length + delays[there]
@@ -84,7 +77,21 @@ def constraints(net: Netlist) -> list[list[tuple[int, int]]]:
                 if known is None or count < known[0] or count == known[0] and reach > known[1]:
                     best[there] = (count, reach)
                     heappush(waiting, (count, place[there], there))
-        asked.append(asks)
+        yield best
+
+
+def constraints(net: Netlist) -> list[list[tuple[int, int]]]:
+    """For each node u the pairs (v, c) that ask for r(u) - r(v) <= c.
+
+    An edge asks for c = w: its new count is 0 or more. A chain from u to v that is longer than the
+    period asks for c = its registers - 1: one of them at least stays on it. Of the chains from u
+    to v one with the fewest registers asks for most, and among these the longest decides. What the
+    nodes ask for that lie beyond the first one too far follows from that and from the edges.
+    """
+    asked = [[(v, registers - 1) for v, (registers, length) in chains.items() if length > net.period]
+             for chains in critical_chains(net, net.period)]
+    for edge in net.edges:
+        asked[edge.source].append((edge.target, edge.count))
     return asked
 
 
@@ -121,6 +128,21 @@ def least_lags(net: Netlist) -> list[int] | None:
 def moved_counts(net: Netlist, lags: Sequence[int]) -> list[int]:
     """"Each edge's new count w + r(v) - r(u)." """
     return [edge.count + lags[edge.target] - lags[edge.source] for edge in net.edges]
+
+
+def rewired(net: Netlist, lags: Sequence[int]) -> Netlist:
+    """The same nodes and edges with the new counts, for what does not look at start values."""
+    counts = moved_counts(net, lags)
+    return replace(net, edges=[replace(edge, count=count) for edge, count in zip(net.edges, counts)])
+
+
+def longest_chain(net: Netlist) -> int:
+    """How long the longest chain is of "nodes joined by edges of new count 0"."""
+    into, ends = in_edges(net), [0] * len(net.nodes)
+    for v in evaluation_order(net):
+        before = max((ends[e.source] for e in into[v] if e.count == 0), default=0)
+        ends[v] = before + working_delay(net.nodes[v], net.derate)
+    return max(ends)
 
 
 # --- Values at clocks ---------------------------------------------------------------------------
@@ -229,8 +251,7 @@ def smallest_choice(net: Netlist, lags: Sequence[int], starts: Starts) -> int | 
     ones = (1 << (1 << late)) - 1
     number = {where: x for x, where in enumerate(chosen)}
     words = [place_word(late - 1 - x, late) for x in range(late)]
-    counts = moved_counts(net, lags)
-    new = replace(net, edges=[replace(edge, count=count) for edge, count in zip(net.edges, counts)])
+    new = rewired(net, lags)
     for first in range(1 << early):
 
         def start(e: int, t: int) -> int:

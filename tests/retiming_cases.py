@@ -31,10 +31,11 @@ from netlists import (
 from reading_cases import reading_cases
 from reference import (
     AND, BUFFER, EDGE, INPUT, INVERTER, LINE, NAND, NODE, NOR, OR, OUTPUT, XNOR, XOR,
-    Edge, Netlist, Node, Refusal, evaluation_order, in_edges, read, text_of, trace,
+    Edge, Netlist, Node, Refusal, read, text_of, trace,
 )
 from retiming import (
-    Retimed, chosen_values, listed, moved, moved_counts, retime, wanted_values, working_delay,
+    Retimed, chosen_values, listed, longest_chain, moved, moved_counts, retime, rewired, wanted_values,
+    working_delay,
 )
 
 SEED = 20010
@@ -116,16 +117,7 @@ def legal(net: Netlist, lags: Sequence[int]) -> bool:
 
 def meets(net: Netlist, lags: Sequence[int]) -> bool:
     """"Every chain of nodes joined by edges of new count 0 has working delays that add up to the period at most." """
-    new = replace(net, edges=[replace(e, count=n) for e, n in zip(net.edges, moved_counts(net, lags))])
-    return longest_chain(new) <= net.period
-
-
-def longest_chain(net: Netlist) -> int:
-    into, ends = in_edges(net), [0] * len(net.nodes)
-    for v in evaluation_order(net):
-        before = max((ends[e.source] for e in into[v] if e.count == 0), default=0)
-        ends[v] = before + working_delay(net.nodes[v], net.derate)
-    return max(ends)
+    return longest_chain(rewired(net, lags)) <= net.period
 
 
 def legal_lags(net: Netlist) -> Iterable[Sequence[int]] | None:
@@ -466,19 +458,22 @@ def searches(rng: Random) -> Iterator[Case]:
             yield case(Netlist(200, 100, nodes, edges), NO_START)
 
 
+def several_clocks(rng: Random, kind: int, inputs: int, depth: int, count: int) -> Netlist:
+    """Rows of gates, each as deep, into one gate with so many registers behind it; period 1."""
+    gate = 1 + inputs * depth
+    edges = []
+    for i in range(inputs):
+        row = range(1 + i * depth, 1 + (i + 1) * depth)
+        edges += [Edge(u, v) for u, v in zip([0, *row], [*row, gate])]
+    edges.append(Edge(gate, gate + 1, count, rng.getrandbits(count)))
+    return drawn(1, [INPUT, *rng.choices(ONE_INPUT, k=inputs * depth), kind, OUTPUT], edges)
+
+
 def deep(rng: Random) -> Iterator[Case]:
-    """Several clocks of chosen values: rows of gates, each as deep, into one gate with several registers behind it."""
+    """Several clocks of chosen values."""
     for inputs, depth in ((2, 1), (2, 2), (2, 5), (2, 12), (3, 3), (3, 8), (4, 6), (5, 4), (8, 3), (2, 13), (5, 5)):
         for kind in rng.sample(MORE_INPUTS, 4):
-            gate = 1 + inputs * depth
-            edges = []
-            for i in range(inputs):
-                row = range(1 + i * depth, 1 + (i + 1) * depth)
-                edges += [Edge(u, v) for u, v in zip([0, *row], [*row, gate])]
-            count = depth + rng.choice([0, 1, 2])
-            edges.append(Edge(gate, gate + 1, count, rng.getrandbits(count)))
-            kinds = [INPUT, *rng.choices(ONE_INPUT, k=inputs * depth), kind, OUTPUT]
-            net = drawn(1, kinds, edges)
+            net = several_clocks(rng, kind, inputs, depth, depth + rng.choice([0, 1, 2]))
             claim = TOO_MANY if inputs * depth > 24 else None
             yield case(net, claim)
             yield case(mixed(rng, net), claim)

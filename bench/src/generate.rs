@@ -467,6 +467,24 @@ pub fn trunk(rng: &mut Random, length: usize, spacing: u8, period: u16) -> Netli
     with_starts(rng, net)
 }
 
+/// A row of slow gates with few registers: the shortest that its longest chain can be is around the longest period.
+pub fn long_row(rng: &mut Random) -> Netlist {
+    let gates = rng.among(90, 510);
+    let mut kinds = vec![INPUT];
+    kinds.extend((0..gates).map(|_| one_input(rng)));
+    kinds.push(OUTPUT);
+    let mut edges: Vec<Edge> = (0..=gates).map(|v| edge(v, v + 1, 0)).collect();
+    for _ in 0..rng.below(5) {
+        edges[rng.below(gates + 1)].count += 1;
+    }
+    let mut net = drawn(1, &kinds, edges);
+    net.derate = rng.among(200, 250) as u8;
+    for node in &mut net.nodes[1..=gates] {
+        node.delay = rng.among(200, 255) as u8;
+    }
+    with_starts(rng, net)
+}
+
 /// A loop in which every gate sees the one before it twice, with registers on its last edges and 1,024 edges at most. The edges
 /// stand in the worst order for whoever sweeps over them back and forth: every second one of the loop, then the others, so
 /// that a sweep gets along a chain by one gate.

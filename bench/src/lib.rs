@@ -9,6 +9,7 @@ pub mod reference;
 pub mod retiming;
 
 use reference::{Answer, Edge, Netlist, Node, Place, Refusal};
+use retiming::Figures;
 
 unsafe extern "C" {
     fn retimer_read(text: *const u8, text_len: usize, net: *mut Record) -> u64;
@@ -38,6 +39,7 @@ unsafe extern "C" {
         lags: *mut i32,
         lags_len: usize,
     ) -> u64;
+    fn retimer_quote(text: *const u8, text_len: usize, figures: *mut Figures) -> u64;
     fn retimer_reread(text: *const u8, text_len: usize, out: *mut u8, out_len: usize) -> u64;
 }
 
@@ -74,6 +76,11 @@ pub fn retime(text: &[u8], out: &mut [u8], lags: &mut [i32]) -> Answer<usize> {
     answer(unsafe {
         retimer_retime(text.as_ptr(), text.len(), out.as_mut_ptr(), out.len(), lags.as_mut_ptr(), lags.len())
     })
+}
+
+/// A text's quote: the smallest period that is not refused 8, and what the least retiming comes to there.
+pub fn quote(text: &[u8], figures: &mut Figures) -> Answer<usize> {
+    answer(unsafe { retimer_quote(text.as_ptr(), text.len(), figures) })
 }
 
 // --- Records --------------------------------------------------------------------------------------

@@ -5,7 +5,8 @@ use bench::generate::{
     Random,
 };
 use bench::reference::{self, Answer, Netlist, Place, Refusal};
-use bench::{retiming, NODES};
+use bench::retiming::{self, Figures};
+use bench::NODES;
 use std::time::{Duration, Instant};
 
 const CLOCKS: usize = 100_000;
@@ -44,7 +45,7 @@ fn size_of(net: &Netlist) -> String {
 fn main() {
     println!("{:<44} {:>11} {:>13} {:>13} {:>8}", "job", "nodes,edges", "ours, µs", "Rust, µs", "ratio");
     reading_and_running();
-    retiming();
+    retiming_and_quoting();
 }
 
 fn reading_and_running() {
@@ -76,7 +77,7 @@ fn reading_and_running() {
     }
 }
 
-fn retiming() {
+fn retiming_and_quoting() {
     let mut rng = Random::new(2);
     let texts: Vec<Vec<u8>> = std::iter::repeat_with(|| any_retimable(&mut rng, 8))
         .filter(|net| net.nodes.len() <= 60)
@@ -97,7 +98,8 @@ fn retiming() {
     assert!(room == rust_room);
     row("retime 1,000 small texts, each", "2 to 60", times, TEXTS);
 
-    retime("retime, the largest", &accepted_largest(&mut rng), |given| given.is_ok_and(|chosen| chosen > 0));
+    let accepted = accepted_largest(&mut rng);
+    retime("retime, the largest", &accepted, |given| given.is_ok_and(|chosen| chosen > 0));
     retime("retime, lags down to -8,160", &trunk(&mut rng, 255, 32, 256), |given| given == Ok(0));
     retime("retime, the slowest found that is retimed", &slowest_accepted(), |given| given.is_ok());
     retime("retime, the slowest found that gives 8", &slowest_infeasible(), |given| given == Err(whole(8)));
@@ -105,6 +107,8 @@ fn retiming() {
     retime("search 24 values, conflict on the first 4: 11", &parities(24, 0..4, [0, 1]), |given| {
         given == Err(whole(11))
     });
+    quote("quote, the largest", &accepted);
+    quote("quote, the slowest found (retiming gives 8)", &slowest_infeasible());
 }
 
 fn whole(number: u8) -> Refusal {
@@ -134,5 +138,19 @@ fn retime(job: &str, net: &Netlist, expected: impl Fn(Answer<usize>) -> bool) {
         || assert!(expected(retiming::retime(&text, &mut rust_room.0, &mut rust_room.1))),
     );
     assert!(room == rust_room);
+    row(job, &size_of(net), times, 1);
+}
+
+/// One text quoted by both: a period, and equal figures.
+fn quote(job: &str, net: &Netlist) {
+    let text = text_of(net);
+    let mut figures = Figures { registers: 0, largest: 0, number: 0 };
+    let mut rust_figures = figures;
+    let (mut given, mut rust_given) = (Ok(0), Ok(0));
+    let times = shortest(
+        || given = bench::quote(&text, &mut figures),
+        || rust_given = retiming::quote(&text, &mut rust_figures),
+    );
+    assert!(given.is_ok() && given == rust_given && figures == rust_figures);
     row(job, &size_of(net), times, 1);
 }

@@ -1,13 +1,14 @@
-//! Retiming, written in Rust from document 01, as one would for production.
+//! Retiming and quotes, written in Rust from documents 01 and 02, as one would for production.
 //!
 //! The least lags come by rounds (Leiserson and Saxe), from the least legal lags on. The choice comes by a search through the
 //! values that hang on it, in an order found once; it goes from choice to choice as the proved one does, so that the two can be
 //! timed against each other. The other new start values are what the original shows.
 
-use crate::reference::{put_netlist, read_with_order, truth, Answer, Engine, Lists, Netlist, Refusal, OUTPUT};
+use crate::reference::{put_netlist, read, read_with_order, truth, Answer, Engine, Lists, Netlist, Refusal, OUTPUT};
 use std::cmp::Reverse;
 use std::collections::BinaryHeap;
 
+const LONGEST_PERIOD: u32 = 65_535;
 const WIDEST: i32 = 32;
 const MOST_CHOSEN: u32 = 24;
 
@@ -91,36 +92,62 @@ impl Chains {
     }
 }
 
-/// "The legal one meeting the period whose lag is smallest at every node at once", with its evaluation order; or none.
-///
-/// A node at the end of a chain that is too long needs one more than it has, whatever the others have: its chain holds no
-/// register, and no lag before it can fall. After as many rounds as nodes every demand has come through.
-fn least_lags(net: &Netlist) -> Option<(Vec<i32>, Vec<u16>)> {
-    let period = u32::from(net.period);
-    let delays = working_delays(net);
-    if delays.iter().any(|&delay| delay > period) {
-        return None;
+/// Rounds over a netlist at any period: what does not depend on the period is made once.
+struct Rounds<'a> {
+    net: &'a Netlist,
+    delays: Vec<u32>,
+    leaving: Leaving,
+    chains: Chains,
+}
+
+impl<'a> Rounds<'a> {
+    fn new(net: &'a Netlist, delays: Vec<u32>) -> Self {
+        let leaving = Lists::gather(delays.len(), net.edges.iter().map(|e| (e.from, (e.to, i32::from(e.count)))));
+        let chains = Chains::new(delays.len());
+        Rounds { net, delays, leaving, chains }
     }
-    let leaving = Lists::gather(delays.len(), net.edges.iter().map(|e| (e.from, (e.to, i32::from(e.count)))));
-    let mut lags = least_legal(net, &leaving);
-    let mut chains = Chains::new(net.nodes.len());
-    for _ in 0..=net.nodes.len() {
-        chains.follow(&leaving, &delays, &lags);
-        let mut late = false;
-        for (v, lag) in lags.iter_mut().enumerate() {
-            if chains.length[v] > period {
-                if net.nodes[v].kind <= OUTPUT {
-                    return None;
+
+    /// "The legal one meeting the period whose lag is smallest at every node at once", or none; its chains are followed. The
+    /// rounds begin at lags that are legal and at no node above it: the least legal ones, or the least at a longer period.
+    ///
+    /// A node at the end of a chain that is too long needs one more than it has, whatever the others have: its chain holds no
+    /// register, and no lag before it can fall. After as many rounds as nodes every demand has come through.
+    fn least_at(&mut self, period: u32, mut lags: Vec<i32>) -> Option<Vec<i32>> {
+        let Rounds { net, delays, leaving, chains } = self;
+        for _ in 0..=net.nodes.len() {
+            chains.follow(leaving, delays, &lags);
+            let mut late = false;
+            for (v, lag) in lags.iter_mut().enumerate() {
+                if chains.length[v] > period {
+                    if net.nodes[v].kind <= OUTPUT {
+                        return None;
+                    }
+                    *lag += 1;
+                    late = true;
                 }
-                *lag += 1;
-                late = true;
+            }
+            if !late {
+                return Some(lags);
             }
         }
-        if !late {
-            return Some((lags, chains.order));
-        }
+        None
     }
-    None
+}
+
+fn longest(lengths: &[u32]) -> u32 {
+    lengths.iter().copied().max().unwrap_or(0)
+}
+
+/// The least lags at the netlist's own period, with an evaluation order of what they make of it; or none.
+fn least_lags(net: &Netlist) -> Option<(Vec<i32>, Vec<u16>)> {
+    let (period, delays) = (u32::from(net.period), working_delays(net));
+    if longest(&delays) > period {
+        return None;
+    }
+    let mut rounds = Rounds::new(net, delays);
+    let first = least_legal(net, &rounds.leaving);
+    let lags = rounds.least_at(period, first)?;
+    Some((lags, rounds.chains.order))
 }
 
 // --- The choice -----------------------------------------------------------------------------------
@@ -348,4 +375,51 @@ pub fn retime(text: &[u8], out: &mut [u8], lags: &mut [i32]) -> Answer<usize> {
     put_netlist(&net, out);
     lag_table.copy_from_slice(&lags);
     Ok(chosen as usize)
+}
+
+// --- Quotes ---------------------------------------------------------------------------------------
+
+/// What the least retiming at the period of a quote comes to. Laid out as in include/retimer.h.
+#[repr(C)]
+#[derive(Clone, Copy, Debug, PartialEq, Eq)]
+pub struct Figures {
+    pub registers: u32,
+    pub largest: u32,
+    pub number: u32,
+}
+
+/// The smallest period that is not refused 8, by halving, and the least lags at that period; none where the longest is
+/// refused 8.
+///
+/// No period below the slowest gate is met. Lags that meet a period meet that of their longest chain too, and are the least
+/// there; and they are at no node above the least at a smaller period, where the rounds go on from them.
+fn smallest_period(net: &Netlist) -> Option<(u32, Vec<i32>)> {
+    let delays = working_delays(net);
+    let mut refused = longest(&delays).max(1) - 1;
+    let mut rounds = Rounds::new(net, delays);
+    let first = least_legal(net, &rounds.leaving);
+    let mut lags = rounds.least_at(LONGEST_PERIOD, first)?;
+    let mut met = longest(&rounds.chains.length).max(1);
+    while refused + 1 < met {
+        let middle = (refused + met) / 2;
+        match rounds.least_at(middle, lags.clone()) {
+            Some(least) => (met, lags) = (longest(&rounds.chains.length), least),
+            None => refused = middle,
+        }
+    }
+    Some((met, lags))
+}
+
+/// A text's quote: the period, and in `figures` what the least retiming comes to there. "The text must read; beyond that, the
+/// period in its own head plays no part."
+pub fn quote(text: &[u8], figures: &mut Figures) -> Answer<usize> {
+    let net = read(text)?;
+    let Some((period, lags)) = smallest_period(&net) else {
+        return Err(Refusal::whole(8));
+    };
+    let Move { counts, chosen, .. } = Move::new(&net, lags);
+    let registers = counts.iter().sum::<i32>() as u32;
+    let largest = counts.iter().copied().max().unwrap_or(0) as u32;
+    *figures = Figures { registers, largest, number: chosen };
+    Ok(period as usize)
 }

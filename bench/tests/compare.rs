@@ -2,11 +2,12 @@
 //! bytes and words that must stay), equal machine words.
 
 use bench::generate::{
-    any_cone, any_retimable, any_sound, damage_netlist, damage_text, largest, longest_chain, mixed, parities, ring,
-    slowest_accepted, slowest_infeasible, text_of, thinned, trunk, Random,
+    any_cone, any_retimable, any_sound, damage_netlist, damage_text, largest, long_row, longest_chain, mixed, parities,
+    ring, slowest_accepted, slowest_infeasible, text_of, thinned, trunk, Random,
 };
 use bench::reference::{self, Answer, Netlist, INPUT, OUTPUT};
-use bench::{retiming, Machine, Record, EDGES, NODES};
+use bench::retiming::{self, Figures};
+use bench::{Machine, Record, EDGES, NODES};
 
 fn pins(net: &Netlist, kind: u8) -> usize {
     net.nodes.iter().filter(|node| node.kind == kind).count()
@@ -376,34 +377,43 @@ fn whole(number: u8) -> reference::Refusal {
     reference::Refusal { number, place: reference::Place::Whole }
 }
 
+/// A netlist of hundreds of nodes: a trunk, a ring or random, with a period around what it can meet.
+fn any_large(rng: &mut Random) -> Netlist {
+    let net = match rng.below(8) {
+        0 => {
+            let length = rng.among(100, 255);
+            let (spacing, period) = (rng.pick(&[30, 31, 32]), rng.pick(&[1, 2, 7, length, 256]));
+            trunk(rng, length, spacing, period as u16)
+        }
+        1 => {
+            let mut registers = vec![0; rng.among(200, 500)];
+            let step = rng.among(5, 60);
+            registers.iter_mut().step_by(step).for_each(|count| *count = 1);
+            let period = rng.among(step - 1, step + 4) as u16;
+            ring(rng, &registers, period)
+        }
+        _ => {
+            let counts: &[u8] = rng.pick(&[&[1u8][..], &[1, 1, 1, 2, 3], &[1, 2, 8, 30]]);
+            let net = largest(rng, 1);
+            let mut net = thinned(rng, net, counts);
+            let parts = rng.pick(&[99, 95, 90, 80, 70, 60, 50]);
+            net.period = (longest_chain(&net) * parts / 100).max(1) as u16;
+            net
+        }
+    };
+    if rng.one_in(2) {
+        mixed(rng, &net)
+    } else {
+        net
+    }
+}
+
 #[test]
 fn retiming_large_texts() {
     let mut rng = Random::new(10);
     let mut seen = Seen::default();
-    for turn in 0..400 {
-        let net = match turn % 8 {
-            0 => {
-                let length = rng.among(100, 255);
-                let (spacing, period) = (rng.pick(&[30, 31, 32]), rng.pick(&[1, 2, 7, length, 256]));
-                trunk(&mut rng, length, spacing, period as u16)
-            }
-            1 => {
-                let mut registers = vec![0; rng.among(200, 500)];
-                let step = rng.among(5, 60);
-                registers.iter_mut().step_by(step).for_each(|count| *count = 1);
-                let period = rng.among(step - 1, step + 4) as u16;
-                ring(&mut rng, &registers, period)
-            }
-            _ => {
-                let counts: &[u8] = rng.pick(&[&[1u8][..], &[1, 1, 1, 2, 3], &[1, 2, 8, 30]]);
-                let net = largest(&mut rng, 1);
-                let mut net = thinned(&mut rng, net, counts);
-                let parts = rng.pick(&[99, 95, 90, 80, 70, 60, 50]);
-                net.period = (longest_chain(&net) * parts / 100).max(1) as u16;
-                net
-            }
-        };
-        let net = if rng.one_in(2) { mixed(&mut rng, &net) } else { net };
+    for _ in 0..400 {
+        let net = any_large(&mut rng);
         seen.count(&retimed_with_room(&mut rng, &text_of(&net)));
     }
     for net in [slowest_accepted(), slowest_infeasible()] {
@@ -456,4 +466,108 @@ fn retimed_texts_run_alike() {
         assert_eq!(bench::run(&text, &vectors, &mut out), bench::run(&new, &vectors, &mut new_out));
         assert!(out == new_out);
     }
+}
+
+// --- Quotes ---------------------------------------------------------------------------------------
+
+/// Both calls on one text, with equal figures lent: equal answers and figures, and a refusal leaves them.
+fn quoted_alike(rng: &mut Random, text: &[u8]) -> (Answer<usize>, Figures) {
+    let mut draw = || rng.draw() as u32;
+    let lent = Figures { registers: draw(), largest: draw(), number: draw() };
+    let (mut figures, mut rust_figures) = (lent, lent);
+    let given = bench::quote(text, &mut figures);
+    let rust = retiming::quote(text, &mut rust_figures);
+    let shown = String::from_utf8_lossy(text);
+    assert_eq!((given, figures), (rust, rust_figures), "{shown}");
+    assert!(given.is_ok() || figures == lent, "{shown}");
+    (given, figures)
+}
+
+/// All shapes; delays up to 255 at any derate; rows around the longest period.
+#[test]
+fn quoting_sound_texts() {
+    let mut rng = Random::new(13);
+    let mut seen = Seen::default();
+    for turn in 0..6000 {
+        let net = match turn % 16 {
+            0 => long_row(&mut rng),
+            1..=4 => any_sound(&mut rng),
+            _ => any_retimable(&mut rng, 24),
+        };
+        seen.count(&quoted_alike(&mut rng, &text_of(&net)).0);
+    }
+    seen.show("quoting sound texts", &[0, 8]);
+}
+
+#[test]
+fn quoting_damaged_texts() {
+    let mut rng = Random::new(14);
+    let mut seen = Seen::default();
+    for _ in 0..6000 {
+        let text = any_text(&mut rng).1;
+        seen.count(&quoted_alike(&mut rng, &text).0);
+    }
+    seen.show("quoting damaged texts", &[0, 1, 2, 3, 4, 5, 6, 7]);
+}
+
+#[test]
+fn quoting_large_texts() {
+    let mut rng = Random::new(15);
+    let mut seen = Seen::default();
+    for _ in 0..200 {
+        let net = any_large(&mut rng);
+        seen.count(&quoted_alike(&mut rng, &text_of(&net)).0);
+    }
+    for net in [slowest_accepted(), slowest_infeasible()] {
+        seen.count(&quoted_alike(&mut rng, &text_of(&net)).0);
+    }
+    seen.show("quoting large texts", &[0]);
+}
+
+/// The text with this period in its head, and what the exported retiming gives and writes for it.
+fn retimed_at(net: &mut Netlist, period: usize) -> (Vec<u8>, Answer<usize>, Vec<u8>) {
+    net.period = period as u16;
+    let text = text_of(net);
+    let mut new = vec![0; text.len()];
+    let given = bench::retime(&text, &mut new, &mut [0; NODES]);
+    (text, given, new)
+}
+
+/// "Every smaller period is refused 8 ... The numbers equal what a retiming at that period has or would have had", whatever
+/// the period in the head: the exported calls beside each other.
+#[test]
+fn a_quote_is_what_retiming_gives() {
+    let mut rng = Random::new(16);
+    let mut seen = Seen::default();
+    for _ in 0..2000 {
+        let mut net = any_retimable(&mut rng, 12);
+        let (quoted, figures) = quoted_alike(&mut rng, &text_of(&net));
+        let period = quoted.expect("chains far shorter than the longest period");
+        for smaller in [1, period / 2, period - 1] {
+            assert!(!(1..period).contains(&smaller) || retimed_at(&mut net, smaller).1 == Err(whole(8)));
+        }
+        for longer in [rng.among(period, 65_535), 65_535] {
+            assert!(retimed_at(&mut net, longer).1 != Err(whole(8)));
+        }
+        let (text, given, new) = retimed_at(&mut net, period);
+        assert_eq!(quoted_alike(&mut rng, &text), (Ok(period), figures));
+        match given {
+            Ok(chosen) => {
+                let moved = reference::read(&new).expect("a retimed text");
+                let counts = || moved.edges.iter().map(|edge| u32::from(edge.count));
+                let (registers, largest) = (counts().sum(), counts().max().unwrap_or(0));
+                assert_eq!(figures, Figures { registers, largest, number: chosen as u32 });
+            }
+            Err(refusal) => {
+                let number = match figures {
+                    Figures { largest: 33.., .. } => 9,
+                    Figures { number: 25.., .. } => 10,
+                    _ => 11,
+                };
+                assert_eq!(refusal.number, number);
+            }
+        }
+        seen.count(&given);
+    }
+    seen.show("retiming at the period quoted", &[0, 9, 10, 11]);
 }

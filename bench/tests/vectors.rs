@@ -1,8 +1,8 @@
-//! The Rust implementation on the gate's own vectors: crates/batch, made by tests/make_vectors.py. Retiming also through the
-//! exported call.
+//! The Rust implementation on the gate's own vectors: crates/batch, made by tests/make_vectors.py. Retiming and quotes also
+//! through the exported calls.
 
 use bench::reference::{read, run, write, Answer};
-use bench::retiming;
+use bench::retiming::{self, Figures};
 use std::path::Path;
 
 /// What the gate's program is given, or must print.
@@ -31,6 +31,7 @@ fn first(given: &[u8]) -> (Job<'_>, &[u8]) {
 }
 
 type Retime = fn(&[u8], &mut [u8], &mut [i32]) -> Answer<usize>;
+type Quote = fn(&[u8], &mut Figures) -> Answer<usize>;
 
 fn reread(text: &[u8]) -> Answer<Vec<u8>> {
     let mut out = vec![0; text.len()];
@@ -58,8 +59,16 @@ fn outputs(text: &[u8], vectors: &[u8], room: usize) -> Answer<Vec<u8>> {
     Ok(digits.chain([b'\n']).collect())
 }
 
-/// All jobs in turn, those that retime by `retime`.
-fn batch(retime: Retime) {
+/// A frame `09`: period (2), register total (4), largest count (4), number of values to choose (4).
+fn quoted(text: &[u8], quote: Quote) -> Answer<Vec<u8>> {
+    let mut figures = Figures { registers: 0, largest: 0, number: 0 };
+    let period = quote(text, &mut figures)?;
+    let Figures { registers, largest, number } = figures;
+    Ok(format!("09{period:04X}{registers:08X}{largest:08X}{number:08X}\n").into_bytes())
+}
+
+/// All jobs in turn, those that retime by `retime` and those that quote by `quote`.
+fn batch(retime: Retime, quote: Quote) {
     let (given, wanted) = (file("stdin"), file("stdout"));
     let (mut given, mut wanted, mut jobs) = (&given[..], &wanted[..], 0);
     while !given.is_empty() {
@@ -68,6 +77,7 @@ fn batch(retime: Retime) {
             "00" => reread(job.text),
             "07" => listing(job.text, retime),
             "08" => outputs(job.text, job.vectors, job.room),
+            "09" => quoted(job.text, quote),
             kind => panic!("job {jobs} is of kind {kind}"),
         };
         let printed = answer.unwrap_or_else(|refusal| format!("{refusal}\n").into_bytes());
@@ -81,10 +91,10 @@ fn batch(retime: Retime) {
 
 #[test]
 fn batch_by_the_export() {
-    batch(bench::retime);
+    batch(bench::retime, bench::quote);
 }
 
 #[test]
 fn batch_by_rust() {
-    batch(retiming::retime);
+    batch(retiming::retime, retiming::quote);
 }

@@ -29,6 +29,11 @@ static const char CARD_D[] = "0100016400050004\n"
                              "03000000010000000000\n03000100020000000000\n"
                              "03000200030100000000\n03000200040100000001\n";
 
+/* Card F with its buffers of delay 255, at derate 250: a chain of two. */
+static const char SLOW_F[] = "010001FA00040003\n"
+                             "020000\n0202FF\n0202FF\n020100\n"
+                             "03000000010000000000\n03000100020000000000\n03000200030000000000\n";
+
 /* Card H: an input and a one-register loop into an XOR. */
 static const char CARD_H[] = "0100016400030003\n"
                              "020000\n020601\n020100\n"
@@ -168,12 +173,48 @@ static void retiming(void) {
     CHECK(all(out, 0x5A, sizeof out) && all(lags, 0x5A, sizeof lags));
 }
 
+static int figures_are(struct retimer_figures figures, uint32_t registers, uint32_t largest, uint32_t number) {
+    return figures.registers == registers && figures.largest == largest && figures.number == number;
+}
+
+static void quoting(void) {
+    struct retimer_figures figures;
+    memset(&figures, 0x5A, sizeof figures);
+    CHECK(refused(retimer_quote(bytes(""), 0, &figures), 1, RETIMER_LINE, 1));
+    CHECK(refused(retimer_quote(bytes(CARD_A), strlen(CARD_A) - 1, &figures), 1, RETIMER_LINE, 8));
+    CHECK(all(&figures, 0x5A, sizeof figures));
+
+    CHECK(retimer_quote(bytes(CARD_A), strlen(CARD_A), &figures) == 1);
+    CHECK(figures_are(figures, 2, 1, 0));
+    /* retiming refuses card D 11, and SLOW_F 8 at its head's period */
+    CHECK(retimer_quote(bytes(CARD_D), strlen(CARD_D), &figures) == 1);
+    CHECK(figures_are(figures, 1, 1, 1));
+    CHECK(retimer_quote(bytes(SLOW_F), strlen(SLOW_F), &figures) == 2 * 638);
+    CHECK(figures_are(figures, 0, 0, 0));
+
+    /* 103 such buffers: no retiming meets 65,535 */
+    enum { GATES = 103 };
+    char text[17 + 7 * (GATES + 2) + 21 * (GATES + 1) + 1];
+    char *end = text + sprintf(text, "010001FA%04X%04X\n020000\n", GATES + 2u, GATES + 1u);
+    for (unsigned v = 0; v < GATES; v++) {
+        end += sprintf(end, "0202FF\n");
+    }
+    end += sprintf(end, "020100\n");
+    for (unsigned v = 0; v <= GATES; v++) {
+        end += sprintf(end, "03%04X%04X0000000000\n", v, v + 1);
+    }
+    memset(&figures, 0x5A, sizeof figures);
+    CHECK(refused(retimer_quote(bytes(text), (size_t)(end - text), &figures), 8, RETIMER_WHOLE, 0));
+    CHECK(all(&figures, 0x5A, sizeof figures));
+}
+
 int main(void) {
     reading();
     checking_and_writing();
     stepping();
     running();
     retiming();
+    quoting();
     if (failures == 0) {
         puts("all as document 01 says");
     }

@@ -6,6 +6,7 @@
 //   00    what `reread` prints of the text
 //   07    what `listing` prints of it
 //   08    the outputs of the text run on the vectors, a digit 0 or 1 each, and a line feed; or the line of the refusal
+//   09    the text's quote: `09`, period (2), register total (4), largest count (4), number of values to choose (4); or the line of the refusal
 //
 // All ends with the input, at a line that is no such frame, or after 65,536 jobs. A text or vectors that the input cuts short are taken as they stand.
 ghost use Prim.Native.Nat.{_<_};
@@ -29,6 +30,10 @@ fn kind_of(line: &[u8]) -> u8 {
     if run.ok {
         return 8;
     }
+    let quote = frame::frame_at(line, 0, 9, 6);
+    if quote.ok {
+        return 9;
+    }
     0
 }
 
@@ -50,6 +55,12 @@ fn print_run(text: &[u8], vectors: &[u8], ran: &mut [u8]) {
     io::write_all(STDOUT_FILENO, &out[..n]);
 }
 
+fn print_quote(text: &[u8]) {
+    let mut out = io::large_buffer();
+    let n = printing::put_quote(text, &mut out);
+    io::write_all(STDOUT_FILENO, &out[..n]);
+}
+
 // A text and vectors as long as these buffers, taken from the input; what is printed of the job.
 fn take_job(kind: u8, text: &mut [u8], vectors: &mut [u8], ran: &mut [u8]) {
     let n = io::read_full(STDIN_FILENO, text);
@@ -57,6 +68,7 @@ fn take_job(kind: u8, text: &mut [u8], vectors: &mut [u8], ran: &mut [u8]) {
     match kind {
         7 => print_listing(&text[..n]),
         8 => print_run(&text[..n], &vectors[..m], ran),
+        9 => print_quote(&text[..n]),
         _ => print_reread(&text[..n]),
     }
 }

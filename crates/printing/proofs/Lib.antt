@@ -4,6 +4,8 @@ pub mod Shown
 -- Bits as digits; a run, by cases.
 pub mod Digits
 pub mod Runs
+-- A quote, by cases.
+pub mod Quoted
 -- Lags as numbers of two bytes, and their lines.
 pub mod Lines
 -- Long texts: more-decides-nothing.

@@ -1,10 +1,12 @@
-// What the programs print: of a text read and written again, of a run, of a text retimed, and of a refusal. The promises are in specs/: Shown, Printed, Listed.
+// What the programs print: of a text read and written again, of a run, of a text retimed, of a quote, and of a refusal. The promises are in specs/: Shown, Printed, Listed, Quoted.
 
+mod quoting;
 mod refusals;
 mod rereading;
 mod retiming;
 mod running;
 
+pub use quoting::put_quote;
 pub use refusals::put_refusal;
 pub use rereading::reread;
 pub use retiming::listing;

@@ -12,9 +12,11 @@ use Rattle.netlist.proofs.Order.{else-one, stops-one, needs-one}
 use Rattle.netlist.proofs.theorems.One.{one-reading, one-writing}
 use Rattle.simulate.proofs.theorems.One.{one-run, one-step}
 use Rattle.retime.proofs.theorems.Outcome.{one-outcome}
+use Rattle.quote.proofs.theorems.Outcome.{one-quote}
+use Rattle.retimer.specs.declared.Figures.{Figures}
 use Rattle.retimer.specs.Code.{code}
 use Rattle.retimer.specs.Calls.{putBack}
-use Rattle.retimer.specs.Theorems.{OneMeaning, OneReadCall, OneCheckCall, OneWriteCall, OneStepCall, OneRunCall, OneRetimeCall, OneRereadCall}
+use Rattle.retimer.specs.Theorems.{OneMeaning, OneReadCall, OneCheckCall, OneWriteCall, OneStepCall, OneRunCall, OneRetimeCall, OneRereadCall, OneQuoteCall}
 
 -- ── A number stands for one answer ──────────────────────────────────────────────────────────
 
@@ -76,3 +78,13 @@ one-reread-call t out r r′ new new′ (s, w, coded) (s′, w′, coded′) =
     let m = length out in
     let f : s ≡ s′ = else-one (stops-one (w′ .said)) (needs-one n m) s s′ (subst (λ c. (Stops c orElse Needs n m) s) (e .0) (w .answer)) (w′ .answer) in
     (coded-alike f coded coded′, w .buffer ∙ ap (λ c. holds c t out) f ∙ sym (w′ .buffer))
+
+figures-alike : (f g : Figures) → f .registers ≡ g .registers → f .largest ≡ g .largest → f .number ≡ g .number → f ≡ g
+figures-alike f g a b c =
+    ap (λ x. record { registers = x; largest = f .largest; number = f .number }) a
+    ∙ ap₂ (λ x y. record { registers = g .registers; largest = x; number = y }) b c
+
+pub one-quote-call : OneQuoteCall
+one-quote-call t f r r′ new new′ (s, (found, quotes, put), coded) (s′, (found′, quotes′, put′), coded′) =
+    let (e, a, b, c) = one-quote t s s′ (found .registers) (found .largest) (found .number) (found′ .registers) (found′ .largest) (found′ .number) quotes quotes′ in
+    (coded-alike e coded coded′, put ∙ ap₂ (λ x y. putBack x y f) e (figures-alike found found′ a b c) ∙ sym put′)

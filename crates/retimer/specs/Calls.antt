@@ -6,6 +6,7 @@
 --   RunCall t vectors out r out′           a text run
 --   RetimeCall t out lags r out′ lags′     a text retimed
 --   RereadCall t out r out′                a text read and written again
+--   QuoteCall t f r f′                     a text quoted into the lent figures
 -- Each fixes r and all that is left: specs/Theorems.
 use mathlib.Core.Path.{_≡_}
 use mathlib.Core.List.{List}
@@ -20,12 +21,14 @@ use Rattle.simulate.specs.Step.{Steps}
 use Rattle.simulate.specs.Run.{Runs}
 use Rattle.retime.specs.Retime.{Retimes}
 use Rattle.retime.specs.Demand.{Demand3}
+use Rattle.quote.specs.Quote.{Quotes}
+use Rattle.retimer.specs.declared.Figures.{Figures}
 use Rattle.retimer.specs.Code.{Coded}
 
--- What a lent record holds after reading: what was read, or after a refusal what it held ("nothing lent is touched").
-abbrev pub putBack : Said → Netlist → Netlist → Netlist
-putBack (value n) read old = read
-putBack (refused q k p) read old = old
+-- What a lent record holds in the end: what was found, or after a refusal what it held ("nothing lent is touched").
+abbrev pub putBack : {A : Type 0} → Said → A → A → A
+putBack (value n) found old = found
+putBack (refused q k p) found old = old
 
 abbrev pub ReadCall : List ℕ → Netlist → ℕ → Netlist → Type 0
 ReadCall t net r net′ = Coded (λ s. (read : Netlist) × Reads t s read × (net′ ≡ putBack s read net)) r
@@ -49,3 +52,6 @@ RetimeCall t out lags r out′ lags′ = Coded (λ s. Retimes t out lags s out�
 
 abbrev pub RereadCall : (t out : List ℕ) → ℕ → List ℕ → Type 0
 RereadCall t out r out′ = Coded (λ s. Rewrites t out s out′) r
+
+abbrev pub QuoteCall : List ℕ → Figures → ℕ → Figures → Type 0
+QuoteCall t f r f′ = Coded (λ s. (found : Figures) × Quotes t s (found .registers) (found .largest) (found .number) × (f′ ≡ putBack s found f)) r

@@ -8,8 +8,9 @@ use lib.IntN.{ℤ}
 use Rattle.netlist.specs.declared.Netlist.{Netlist}
 use Rattle.netlist.specs.Answer.{Said, value, refused}
 use Rattle.simulate.specs.declared.Machine.{Machine}
+use Rattle.retimer.specs.declared.Figures.{Figures}
 use Rattle.retimer.specs.Code.{code}
-use Rattle.retimer.specs.Calls.{ReadCall, CheckCall, WriteCall, StepCall, RunCall, RetimeCall, RereadCall}
+use Rattle.retimer.specs.Calls.{ReadCall, CheckCall, WriteCall, StepCall, RunCall, RetimeCall, RereadCall, QuoteCall}
 
 -- A number of bytes, or "number (1), place kind (1), place (2)".
 abbrev pub Small : Said → Type 0
@@ -41,3 +42,6 @@ OneRetimeCall = (t out : List ℕ) (lags : List ℤ) (r r′ : ℕ) (new new′ 
 
 abbrev pub OneRereadCall : Type 0
 OneRereadCall = (t out : List ℕ) (r r′ : ℕ) (new new′ : List ℕ) → RereadCall t out r new → RereadCall t out r′ new′ → (r ≡ r′) × (new ≡ new′)
+
+abbrev pub OneQuoteCall : Type 0
+OneQuoteCall = (t : List ℕ) (f : Figures) (r r′ : ℕ) (new new′ : Figures) → QuoteCall t f r new → QuoteCall t f r′ new′ → (r ≡ r′) × (new ≡ new′)

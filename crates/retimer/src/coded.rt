@@ -3,7 +3,8 @@ ghost use mathlib.Core.Path.{_≡_};
 ghost use Prim.Native.Nat.{_<_};
 ghost use Rattle.netlist.specs.Answer.{says};
 ghost use Rattle.retimer.specs.Code.{code, place};
-ghost use Rattle.retimer.specs.Calls.{ReadCall, CheckCall, WriteCall, StepCall};
+ghost use Rattle.retimer.specs.Calls.{ReadCall, CheckCall, WriteCall, StepCall, QuoteCall};
+use crate::Figures;
 use netlist::Answer;
 use netlist::Netlist;
 use netlist::Place;
@@ -18,6 +19,12 @@ pub struct Filled {
 // A machine as it is put back, and the call's number.
 pub struct Clocked {
     pub machine: Machine,
+    pub code: u64,
+}
+
+// The figures as they are put back, and the call's number.
+pub struct Priced {
+    pub figures: Figures,
     pub code: u64,
 }
 
@@ -82,6 +89,27 @@ pub fn step_coded(net: Netlist, machine: Machine, vector: &[u8], out: &mut [u8])
     let code = answer_code(a);
     Clocked {
         machine: next,
+        code,
+    }
+}
+
+// The figures of the text's quote; where it is refused, those that were lent.
+pub fn quote_coded(text: &[u8], figures: Figures) -> Priced
+    ensures { λ r. ⌜ QuoteCall (now (text .entry)) figures (r .code) (r .figures) ⌝ }
+{
+    let quoted = quote::quote(text);
+    let a = quoted.answer;
+    let code = answer_code(a);
+    let Answer::Done(_) = a else {
+        return Priced { figures, code };
+    };
+    let quotes = Figures {
+        registers: quoted.registers,
+        largest: quoted.largest,
+        number: quoted.number,
+    };
+    Priced {
+        figures: quotes,
         code,
     }
 }

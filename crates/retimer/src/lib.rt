@@ -2,17 +2,26 @@
 //
 // A record is lent as a struct by reference, so its field types are its ranges. Each call that takes one copies it, calls the core of `coded`
 // that takes it by value, and puts back what comes of it: it decides nothing itself.
-ghost use Rattle.retimer.specs.Calls.{ReadCall, CheckCall, WriteCall, StepCall, RunCall, RetimeCall, RereadCall};
+ghost use Rattle.retimer.specs.Calls.{ReadCall, CheckCall, WriteCall, StepCall, RunCall, RetimeCall, RereadCall, QuoteCall};
 
 mod coded;
 
 use coded::answer_code;
 use coded::check_coded;
+use coded::quote_coded;
 use coded::read_coded;
 use coded::step_coded;
 use coded::write_coded;
 use netlist::Netlist;
 use simulate::Machine;
+
+// A quote's figures: the register total, the largest count on an edge, the number of values to choose.
+#[repr(C)]
+pub struct Figures {
+    pub registers: u32,
+    pub largest: u32,
+    pub number: u32,
+}
 
 // A text read into the record; a refusal leaves the record as it was.
 #[no_mangle]
@@ -80,4 +89,14 @@ pub extern "C" fn retimer_reread(text: &[u8], out: &mut [u8]) -> u64
 {
     let a = netlist::rewrite(text, out);
     answer_code(a)
+}
+
+// A text quoted: the number is the period, the figures are written; a refusal leaves them as they were.
+#[no_mangle]
+pub extern "C" fn retimer_quote(text: &[u8], figures: &mut Figures) -> u64
+    ensures { λ r. ⌜ QuoteCall (now (text .entry)) (now (figures .entry)) r (now (figures .exit)) ⌝ }
+{
+    let r = quote_coded(text, *figures);
+    *figures = r.figures;
+    r.code
 }

@@ -1,0 +1,2 @@
+-- What functions promise each other.
+pub mod Quoted
