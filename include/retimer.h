@@ -22,7 +22,9 @@ struct retimer_netlist {
     uint8_t derate; /* in percent */
     uint16_t nodes;
     uint16_t edges;
-    uint8_t kind[RETIMER_NODES]; /* 0 input, 1 output, 2 buffer, 3 inverter, 4 AND, 5 OR, 6 XOR, 7 NAND, 8 NOR, 9 XNOR */
+    /* 0 input, 1 output, 2 buffer, 3 inverter, 4 AND, 5 OR, 6 XOR, 7 NAND, 8 NOR, 9 XNOR, 10 selector: its three in-edges are, in the
+     * order of edges, select, first, second, and it gives the first when select is 0, the second when it is 1 */
+    uint8_t kind[RETIMER_NODES];
     uint8_t delay[RETIMER_NODES];
     uint16_t from[RETIMER_EDGES]; /* the node that the edge leaves */
     uint16_t to[RETIMER_EDGES];   /* the node that it enters */

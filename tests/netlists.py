@@ -1,7 +1,8 @@
 """Netlists that the tests share: the paper's bench cards, simple shapes, and random sound ones.
 
-  card_a .. card_l        the netlists of "Bench cards"
+  card_a .. card_l        the netlists of "Bench cards"; card_s has a selector (request F-2)
   line_of                 input, nodes in a row, output
+  kinds_with              the gate kinds to draw from for so many in-edges
   random_netlist          a sound netlist of given sizes: refused by none of 1 to 7
   largest                 512 nodes, 1,024 edges
 """
@@ -12,12 +13,19 @@ from collections.abc import Sequence
 from random import Random
 
 from reference import (
-    AND, BUFFER, INPUT, INVERTER, NAND, NOR, OR, OUTPUT, XNOR, XOR, Edge, Netlist, Node,
+    AND, BUFFER, INPUT, INVERTER, NAND, NOR, OR, OUTPUT, SELECTOR, XNOR, XOR, Edge, Netlist, Node,
 )
 
 ONE_INPUT = (BUFFER, INVERTER)
 MORE_INPUTS = (AND, OR, XOR, NAND, NOR, XNOR)
 PINS = (INPUT, OUTPUT)
+
+
+def kinds_with(inputs: int) -> Sequence[int]:
+    """The gate kinds to draw from for so many in-edges: half of the gates with three are selectors."""
+    if inputs == 1:
+        return ONE_INPUT
+    return (*MORE_INPUTS, *[SELECTOR] * len(MORE_INPUTS)) if inputs == 3 else MORE_INPUTS
 
 
 def node_of(kind: int) -> Node:
@@ -82,6 +90,12 @@ def card_k(buffers: int = 25, registers: int = 24) -> Netlist:
     return line_of(1, [BUFFER] * buffers, {buffers: (registers, 0)})
 
 
+def card_s(value: int = 1) -> Netlist:
+    """Three inputs, each with a buffer, into a selector, a register, output."""
+    edges = [Edge(0, 3), Edge(1, 4), Edge(2, 5), Edge(3, 6), Edge(4, 6), Edge(5, 6), Edge(6, 7, 1, value)]
+    return drawn(1, [*[INPUT] * 3, *[BUFFER] * 3, SELECTOR, OUTPUT], edges)
+
+
 CARDS: dict[str, Netlist] = {
     "A": card_a(),
     "B": card_a(2),
@@ -95,6 +109,7 @@ CARDS: dict[str, Netlist] = {
     "J": card_i(20),
     "K": card_k(),
     "L": card_k(26, 25),
+    "S": card_s(),
     "wire": line_of(1, [], {}),  # "input wired to output"
 }
 
@@ -110,11 +125,14 @@ def random_registers(rng: Random, least: int) -> tuple[int, int]:
 
 
 def random_fan_ins(rng: Random, gates: int, total: int) -> list[int]:
-    """1 to 8 for each gate, adding up to `total`."""
+    """1 to 8 for each gate, adding up to `total`; often 3, so that there are selectors."""
     fan_ins = [1] * gates
     while sum(fan_ins) < total:
         i = rng.randrange(gates)
-        fan_ins[i] += fan_ins[i] < 8
+        if fan_ins[i] == 1 and sum(fan_ins) + 2 <= total and rng.random() < 0.5:
+            fan_ins[i] = 3
+        else:
+            fan_ins[i] += fan_ins[i] < 8
     return fan_ins
 
 
@@ -133,7 +151,7 @@ def random_netlist(rng: Random, inputs: int, gates: int, outputs: int, edges: in
     kinds = [INPUT] * inputs
     wires: list[Edge] = []
     for gate, fan_in in enumerate(fan_ins, start=inputs):
-        kinds.append(rng.choice(ONE_INPUT if fan_in == 1 else MORE_INPUTS))
+        kinds.append(rng.choice(kinds_with(fan_in)))
         wires.append(Edge(open_ends.pop(0), gate, *random_registers(rng, 0)))
         for _ in range(fan_in - 1):
             source = rng.randrange(inputs + gates) if rng.random() < 0.3 else rng.randrange(gate)
@@ -165,7 +183,7 @@ def random_small(rng: Random, most_nodes: int) -> Netlist:
     inputs = rng.choice([1, 1, 1, 2, 3])
     outputs = inputs + rng.choice([0, 0, 0, 1, 2])
     gates = min(rng.randint(0, most_nodes), rng.randint(0, most_nodes))
-    extra = rng.randint(0, gates)
+    extra = rng.randint(0, rng.choice([1, 2]) * gates)
     return random_netlist(rng, inputs, gates, outputs, gates + outputs + extra)
 
 

@@ -21,14 +21,14 @@ from collections.abc import Iterator, Sequence
 from dataclasses import dataclass, replace
 from random import Random
 
-from netlists import CARDS, MORE_INPUTS, ONE_INPUT, card_a, card_f, drawn, largest, line_of, random_small
+from netlists import CARDS, MORE_INPUTS, ONE_INPUT, card_a, card_f, drawn, kinds_with, largest, line_of, random_small
 from quoting import LONGEST_PERIOD, Quote, figures, quote
 from reading_cases import reading_cases
-from reference import BUFFER, INPUT, LINE, NODE, OUTPUT, XOR, Edge, Netlist, Node, Refusal, read, text_of
+from reference import BUFFER, INPUT, LINE, NODE, OUTPUT, SELECTOR, XOR, Edge, Netlist, Node, Refusal, read, text_of
 from retiming import AT_ONCE, least_lags, longest_chain, retime, rewired, working_delay
 from retiming_cases import (
-    NO_RETIMING, beside, cone, correlator, fork, gathered, legal, legal_lags, mixed, parities, ring, several_clocks,
-    thinned, trunk, with_edges, with_starts,
+    NO_RETIMING, beside, cone, correlator, fork, gathered, gone_over, legal, legal_lags, mixed, parities, ring, selecting,
+    several_clocks, shared, thinned, trunk, with_edges, with_starts,
 )
 
 SEED = 20010
@@ -135,6 +135,7 @@ CARD_QUOTES: dict[str, tuple[int, int, int, int]] = {
     "J": (1, 40, 40, 0),
     "K": (1, 24, 1, 24),
     "L": (1, 25, 1, 25),
+    "S": (1, 3, 1, 3),
     "wire": (1, 0, 0, 0),
 }
 
@@ -251,8 +252,15 @@ def gates(rng: Random) -> Iterator[Case]:
     for kind in MORE_INPUTS:
         inputs = rng.randint(2, 8)
         yield Case(gathered(kind, inputs, rng.getrandbits(1)).text, Quote(1, inputs, 1, inputs))
+    yield Case(gathered(SELECTOR, 3, 0).text, Quote(1, 3, 1, 3))
+    for counts in ((1, 2, 3), (32, 9, 20), (0, 1, 1)):  # registers that go forward over a selector
+        gone = min(counts)
+        claim = Quote(1, sum(counts) - 2 * gone, max(gone, max(counts) - gone), 0)
+        yield Case(gone_over(counts, (0, 0, 0), (2, 0, 1)).text, claim)
+    for values in ((0, 0), (0, 1)):  # the second could not start
+        yield Case(shared((0, 1, 2), values).text, Quote(200, 3, 1, 3))
     for inputs, depth, more in ((2, 1, 0), (2, 5, 2), (3, 8, 0), (5, 5, 1), (8, 4, 7), (2, 13, 0)):
-        net = several_clocks(rng, rng.choice(MORE_INPUTS), inputs, depth, depth + more)
+        net = several_clocks(rng, rng.choice(kinds_with(inputs)), inputs, depth, depth + more)
         yield case(net, Quote(1, inputs * depth + more, max(1, more), inputs * depth))
         yield case(mixed(rng, net), Quote(1, inputs * depth + more, max(1, more), inputs * depth))
     for chosen in (2, 9, 24, 25, 60):
@@ -292,7 +300,8 @@ def misread(seed: int) -> Iterator[Case]:
     yield Case(text[:-1], Refusal(1, LINE, 8))
     yield Case(text + b"\n", Refusal(1, LINE, 9))
     yield Case(text.replace(b"020301", b"0203O1", 1), Refusal(1, LINE, 3))
-    yield Case(text.replace(b"020301", b"020A01", 1), Refusal(3, LINE, 3))
+    yield Case(text.replace(b"020301", b"020B01", 1), Refusal(3, LINE, 3))
+    yield Case(text.replace(b"020301", b"020A01", 1), Refusal(5, NODE, 1))
     yield case(with_edges(card_a(), {1: (33, 0)}), Refusal(4, LINE, 7))
     yield case(with_edges(card_a(), {1: (1, 2)}), Refusal(4, LINE, 7))
     yield case(drawn(1, [INPUT, XOR, OUTPUT], [Edge(0, 1), Edge(1, 2)]), Refusal(5, NODE, 1))
@@ -317,7 +326,9 @@ def loops(rng: Random) -> Iterator[Case]:
         for _ in range(4):
             count = rng.randint(1, gates)
             registers = {e: 1 for e in rng.sample(range(gates), count)} if rng.random() < 0.5 else {0: count}
-            yield case(ring(rng, gates, registers, 1))
+            net = ring(rng, gates, registers, 1)
+            yield case(net)
+            yield case(selecting(rng, net))
     for count in (1, 2, 32):
         edges = [Edge(0, 1), Edge(1, 2), Edge(2, 2, count), Edge(2, 3, 1)]
         yield case(with_starts(rng, drawn(9, [INPUT, BUFFER, XOR, OUTPUT], edges)), Quote(1, count + 1, count, 2))
@@ -342,6 +353,7 @@ def large(rng: Random) -> Iterator[Case]:
     yield case(thinned(rng, largest(rng), (1,)))
     yield case(largest(rng))
     yield case(mixed(rng, trunk(rng, 60, 32, 1)))
+    yield case(mixed(rng, selecting(rng, trunk(rng, 60, 32, 1))))
     yield case(mixed(rng, correlator(rng, 16, 40)))
     yield in_a_row(510, {e: 32 for e in range(511)})
     yield case(ring(rng, 500, {e: 1 for e in range(0, 500, 10)}, 11))

@@ -15,7 +15,7 @@ from random import Random
 
 from netlists import CARDS, card_a, drawn, largest, line_of, random_small
 from reference import (
-    AND, BUFFER, GATE_RULES, INPUT, INVERTER, LINE, NODE, OR, OUTPUT, XOR,
+    AND, BUFFER, GATE_RULES, INPUT, INVERTER, LINE, NODE, OR, OUTPUT, SELECTOR, XOR,
     Edge, Netlist, Node, Refusal, reread, text_of,
 )
 
@@ -156,9 +156,9 @@ def heads() -> Iterator[Case]:
 
 
 def node_lines() -> Iterator[Case]:
-    """Gate kinds above 09 and wrong delays at the first, a middle and the last node line."""
+    """Gate kinds above 0A and wrong delays at the first, a middle and the last node line."""
     for line in (2, 3, 5):
-        for kind in (0x0A, 0x0B, 0x10, 0x80, 0xFF):
+        for kind in (0x0B, 0x0C, 0x10, 0x80, 0xFF):
             for delay in (0, 1, 255):
                 yield Case(with_line(line, b"02%02X%02X" % (kind, delay)), at_line(3, line))
         for kind in GATE_RULES:
@@ -167,6 +167,9 @@ def node_lines() -> Iterator[Case]:
     for delay in (1, 2, 128, 254, 255):
         for line in (3, 4):
             yield Case(with_line(line, b"0203%02X" % delay), SAME)
+        yield Case(fan_in_text(SELECTOR, 1, 3).replace(b"020A01", b"020A%02X" % delay), SAME)
+    for line in (b"020A00", b"020B01"):
+        yield Case(fan_in_text(SELECTOR, 1, 3).replace(b"020A01", line), at_line(3, 3))
 
 
 # --- Rule 4 -------------------------------------------------------------------------------------
@@ -203,12 +206,12 @@ def edge_lines() -> Iterator[Case]:
 
 
 def fan_ins() -> Iterator[Case]:
-    """Every kind with 0, 1, 2, 8 and 9 in-edges as the lowest, a middle and the last node."""
+    """Every kind with 0 to 4, 8 and 9 in-edges as the lowest, a middle and the last node."""
     for kind, (fewest, most, _, _) in GATE_RULES.items():
         if kind == INPUT:
             continue  # an edge into an input is 4
         for tried in range(3):
-            for fan_in in (0, 1, 2, 8, 9):
+            for fan_in in (0, 1, 2, 3, 4, 8, 9):
                 claim = SAME if fewest <= fan_in <= most else at_node(5, tried)
                 yield Case(fan_in_text(kind, tried, fan_in), claim)
     # two nodes are wrong: the lowest is named, whichever way it is wrong and whatever the edge order
@@ -218,6 +221,11 @@ def fan_ins() -> Iterator[Case]:
             yield Case(text_of(drawn(1, kinds, order)), at_node(5, lowest))
     yield Case(text_of(drawn(1, [OUTPUT, INPUT], [Edge(1, 0), Edge(1, 0)])), at_node(5, 0))
     yield Case(text_of(drawn(1, [INPUT, OUTPUT, OUTPUT], [Edge(0, 1)])), at_node(5, 2))
+    # a selector has exactly three, from whatever nodes and with whatever registers
+    for fan_in, claim in ((2, at_node(5, 1)), (3, SAME), (4, at_node(5, 1))):
+        edges = [Edge(0, 1), Edge(1, 1, 1, 1), Edge(0, 1, 32, 7), Edge(1, 1, 2, 2)]
+        for order in (edges[:fan_in], edges[:fan_in][::-1]):
+            yield Case(text_of(drawn(1, [INPUT, SELECTOR, OUTPUT], [*order, Edge(1, 2)])), claim)
 
 
 def fan_in_text(kind: int, tried: int, fan_in: int) -> bytes:
@@ -320,7 +328,7 @@ def orders() -> Iterator[Case]:
             lines[line - 1] = new
         return joined(lines)
 
-    kind, delay, count = b"020A01", b"020300", b"03000100022100000000"
+    kind, delay, count = b"020B01", b"020300", b"03000100022100000000"
     yield Case(text((2, kind), (5, b"0201")), at_line(3, 2))  # a 3 on line 2 before a 1 on line 5
     yield Case(text((2, b"020")), at_line(1, 2))
     yield Case(text((2, kind), (3, b"")), at_line(3, 2))
@@ -332,14 +340,15 @@ def orders() -> Iterator[Case]:
     yield Case(text((1, head_line(0, 100, 4, 3)), (2, b"")), at_line(2, 1))
     yield Case(text((1, head_line(0, 100, 4, 3)[:-1])), at_line(1, 1))  # 1 before 2 on a line
     yield Case(text((1, b"0100006400040003 ")), at_line(1, 1))
-    yield Case(text((3, b"020AFG")), at_line(1, 3))  # 1 before 3 on a line
-    yield Case(text((3, b"030A01")), at_line(1, 3))
+    yield Case(text((3, b"020BFG")), at_line(1, 3))  # 1 before 3 on a line
+    yield Case(text((3, b"030B01")), at_line(1, 3))
     yield Case(text((8, b"03FFFFFFFFFFFFFFFFFf")), at_line(1, 8))  # 1 before 4 on a line
     yield Case(text((8, b"02FFFFFFFFFFFFFFFFFF")), at_line(1, 8))
     yield Case(text((8, count)) + b"\n", at_line(4, 8))  # 4 on the last line before a surplus line
     yield Case(text((8, count))[:-1], at_line(1, 8))
     yield Case(text((3, b"020401")) + b"0", at_line(1, 9))  # a surplus byte before 5
     yield Case(text((3, b"020401")), at_node(5, 1))
+    yield Case(text((3, b"020A01")), at_node(5, 1))
     # 5 before 6 before 7: node 2 a buffer on itself, node 3 with a wrong fan-in, input 4 idle
     kinds = [INPUT, OUTPUT, BUFFER, AND, INPUT]
     io, idle, looped, single = Edge(0, 1), Edge(4, 3), Edge(2, 2), Edge(2, 3)
@@ -412,7 +421,7 @@ def random_rewiring(rng: Random, how_many: int) -> Iterator[Case]:
             some_node = rng.randrange(len(nodes))
             way = rng.randrange(10)
             if way == 0:
-                nodes[v] = Node(rng.randint(0, 10), nodes[v].delay)
+                nodes[v] = Node(rng.randint(0, 11), nodes[v].delay)
             elif way == 1:
                 nodes[v] = Node(nodes[v].kind, rng.choice([0, 1]))
             elif way < 6:

@@ -26,7 +26,7 @@ from struct import Struct
 
 # --- The record ---------------------------------------------------------------------------------
 
-INPUT, OUTPUT, BUFFER, INVERTER, AND, OR, XOR, NAND, NOR, XNOR = range(10)
+INPUT, OUTPUT, BUFFER, INVERTER, AND, OR, XOR, NAND, NOR, XNOR, SELECTOR = range(11)
 
 # "Gate kinds, with in-edges": fewest and most in-edges, smallest and largest delay.
 GATE_RULES: dict[int, tuple[int, int, int, int]] = {
@@ -35,6 +35,7 @@ GATE_RULES: dict[int, tuple[int, int, int, int]] = {
     BUFFER: (1, 1, 1, 255),
     INVERTER: (1, 1, 1, 255),
     **{kind: (2, 8, 1, 255) for kind in (AND, OR, XOR, NAND, NOR, XNOR)},
+    SELECTOR: (3, 3, 1, 255),  # request F-2: "a three-input selector, kind 0A"
 }
 
 
@@ -140,7 +141,7 @@ def check_head(period: int, derate: int, node_count: int, edge_count: int) -> No
 
 
 def check_node(node: Node, line: int) -> None:
-    """"3 (line): gate kind above 09, or a wrong delay." """
+    """"3 (line): gate kind above 09, or a wrong delay"; since request F-2 "3 now begins above kind 0A". """
     if node.kind not in GATE_RULES:
         raise Refusal(3, LINE, line)
     _, _, least, greatest = GATE_RULES[node.kind]
@@ -301,13 +302,17 @@ def write(net: Netlist, room: int) -> bytes:
 def gate_value(kind: int, seen: Sequence[int]) -> int:
     """What a node other than an input gives for the values seen on its in-edges, in edge order.
 
-    "XOR is 1 when an odd number of its inputs are 1, XNOR when an even number are."
+    "XOR is 1 when an odd number of its inputs are 1, XNOR when an even number are." A selector's "in-edges,
+    in edge-number order, are select, first, second; it gives the first when select is 0, the second when it is 1".
 
-    >>> [gate_value(kind, [1, 0, 1]) for kind in (AND, OR, XOR, NAND, NOR, XNOR)]
-    [0, 1, 0, 1, 0, 1]
+    >>> [gate_value(kind, [1, 0, 1]) for kind in (AND, OR, XOR, NAND, NOR, XNOR, SELECTOR)]
+    [0, 1, 0, 1, 0, 1, 1]
     """
     if kind in (OUTPUT, BUFFER):  # "an output's is what it sees"
         return seen[0]
+    if kind == SELECTOR:
+        select, *either = seen
+        return either[select]
     if kind == INVERTER:
         return 1 - seen[0]
     if kind in (AND, NAND):

@@ -30,7 +30,7 @@ from heapq import heappop, heappush
 from struct import Struct
 
 from reference import (
-    AND, EDGE, INPUT, INVERTER, NAND, NOR, OR, OUTPUT, XNOR, Edge, Netlist, Node, Refusal,
+    AND, EDGE, INPUT, INVERTER, NAND, NOR, OR, OUTPUT, SELECTOR, XNOR, Edge, Netlist, Node, Refusal,
     evaluation_order, frame_line, in_edges, read, text_of,
 )
 
@@ -184,7 +184,10 @@ class Values:
         return known[v][t]
 
     def gate(self, kind: int, seen: Sequence[int]) -> int:
-        """What a gate gives, for all choices at once."""
+        """What a gate gives that sees these words, in edge order: for all choices at once."""
+        if kind == SELECTOR:
+            select, first, second = seen
+            return first & ~select | second & select
         word = seen[0]
         for other in seen[1:]:
             word = word & other if kind in (AND, NAND) else word | other if kind in (OR, NOR) else word ^ other

@@ -20,17 +20,17 @@ import sys
 from collections import Counter
 from collections.abc import Iterable, Iterator, Sequence
 from dataclasses import dataclass, replace
-from itertools import combinations, product
+from itertools import combinations, permutations, product
 from math import prod
 from random import Random
 
 from netlists import (
-    CARDS, MORE_INPUTS, ONE_INPUT, card_a, card_c, card_d, card_f, card_g, card_i, card_k, drawn,
-    largest, line_of, node_of, random_small,
+    CARDS, MORE_INPUTS, ONE_INPUT, card_a, card_c, card_d, card_f, card_g, card_i, card_k, card_s, drawn,
+    kinds_with, largest, line_of, node_of, random_small,
 )
 from reading_cases import reading_cases
 from reference import (
-    AND, BUFFER, EDGE, INPUT, INVERTER, LINE, NAND, NODE, NOR, OR, OUTPUT, XNOR, XOR,
+    AND, BUFFER, EDGE, INPUT, INVERTER, LINE, NAND, NODE, NOR, OR, OUTPUT, SELECTOR, XNOR, XOR,
     Edge, Netlist, Node, Refusal, read, text_of, trace,
 )
 from retiming import (
@@ -174,8 +174,25 @@ def numbered(net: Netlist, nodes: Sequence[int], edges: Sequence[int]) -> Netlis
 
 
 def mixed(rng: Random, net: Netlist) -> Netlist:
-    """The same netlist, its nodes and edges in another order."""
-    return numbered(net, *(rng.sample(range(n), n) for n in (len(net.nodes), len(net.edges))))
+    """The same netlist, its nodes and edges in another order; those that enter one selector stay in theirs."""
+    nodes, edges = (rng.sample(range(n), n) for n in (len(net.nodes), len(net.edges)))
+    for v in net.numbers_of(SELECTOR):
+        entering = [e for e, edge in enumerate(net.edges) if edge.target == v]
+        for e, place in zip(entering, sorted(edges[e] for e in entering)):
+            edges[e] = place
+    return numbered(net, nodes, edges)
+
+
+def selecting(rng: Random, net: Netlist) -> Netlist:
+    """Some gates with two in-edges made selectors: one of the two twice, and the three in any order."""
+    nodes, edges = list(net.nodes), list(net.edges)
+    for v, node in enumerate(net.nodes):
+        entering = [edge for edge in net.edges if edge.target == v]
+        if node.kind in MORE_INPUTS and len(entering) == 2 and rng.random() < 0.5 and len(edges) < 1024:
+            nodes[v] = replace(node, kind=SELECTOR)
+            edges.append(rng.choice(entering))
+    order = rng.sample(range(len(edges)), len(edges))
+    return replace(net, nodes=nodes, edges=[edges[e] for e in order])
 
 
 def beside(parts: Sequence[Netlist]) -> Netlist:
@@ -223,6 +240,9 @@ def cards(rng: Random) -> Iterator[Case]:
     k = card_k()
     yield case(k, (with_edges(k, {**{e: (1, 0) for e in range(1, 25)}, 25: (0, 0)}), [0, *range(25), 0]))
     yield case(card_k(26, 25), TOO_MANY)
+    for value in (1, 0):  # "chosen 0, 1, 0" and 0, 0, 0
+        s = card_s(value)
+        yield case(s, (with_edges(s, {3: (1, 0), 4: (1, value), 5: (1, 0), 6: (0, 0)}), [0, 0, 0, 0, 0, 0, 1, 0]))
     for derate in (49, 251, 0, 255):
         yield case(replace(card_d(2), derate=derate), Refusal(2, LINE, 1))
     yield unmoved(replace(card_d(2), derate=50))
@@ -344,9 +364,9 @@ def forks(rng: Random) -> Iterator[Case]:
 
 # --- Gates with many inputs: the smallest choice ------------------------------------------------
 
-# For each kind the smallest choices of its inputs that give 0 and 1: none, only the last, all.
+# For each kind the smallest choices of its inputs that give 0 and 1: none, only the last, all; of a selector the first.
 SMALLEST = {AND: ("none", "all"), OR: ("none", "last"), XOR: ("none", "last"),
-            NAND: ("all", "none"), NOR: ("last", "none"), XNOR: ("last", "none")}
+            NAND: ("all", "none"), NOR: ("last", "none"), XNOR: ("last", "none"), SELECTOR: ("none", "first")}
 
 
 def gathered(kind: int, inputs: int, value: int) -> Case:
@@ -354,7 +374,7 @@ def gathered(kind: int, inputs: int, value: int) -> Case:
     edges = [Edge(v, inputs + v) for v in range(inputs)]
     edges += [Edge(inputs + v, 2 * inputs) for v in range(inputs)] + [Edge(2 * inputs, 2 * inputs + 1, 1, value)]
     net = drawn(1, [*[INPUT] * inputs, *[BUFFER] * inputs, kind, OUTPUT], edges)
-    choice = {"none": 0, "last": 1, "all": (1 << inputs) - 1}[SMALLEST[kind][value]]
+    choice = {"none": 0, "last": 1, "first": 2, "all": (1 << inputs) - 1}[SMALLEST[kind][value]]
     changes = {inputs + v: (1, choice >> (inputs - 1 - v) & 1) for v in range(inputs)}
     return case(net, (with_edges(net, {**changes, 2 * inputs: (0, 0)}), [*[0] * 2 * inputs, 1, 0]))
 
@@ -363,6 +383,62 @@ def gates(rng: Random) -> Iterator[Case]:
     """Every kind of gate with 2 to 8 inputs, for both values."""
     for kind, inputs, value in product(MORE_INPUTS, range(2, 9), (0, 1)):
         yield gathered(kind, inputs, value)
+
+
+def selectors(rng: Random) -> Iterator[Case]:
+    """Selectors that registers go over, either way; the edges turned and between others; registers on some of the three."""
+    for value in (0, 1):
+        net = card_s(value)
+        for order in permutations((3, 4, 5)):  # whichever buffer is select: the lowest edge is
+            edges = [*net.edges[:3], *(Edge(v, 6) for v in order), net.edges[6]]
+            turned = replace(net, edges=edges)
+            claim = with_edges(turned, {3: (1, 0), 4: (1, value), 5: (1, 0), 6: (0, 0)})
+            yield case(turned, (claim, [0, 0, 0, 0, 0, 0, 1, 0]))
+            other = (7, 6, 5, 4, 3, 2, 1, 0), (3, 5, 1, 0, 2, 4, 6)  # its edges between others, its node the second
+            yield case(numbered(turned, *other), (numbered(claim, *other), [0, 1, 0, 0, 0, 0, 0, 0]))
+        for sources in ((1, 1, 1), (1, 2, 1), (2, 1, 1), (1, 1, 2)):
+            edges = [Edge(0, 1), Edge(0, 2), *(Edge(v, 3) for v in sources), Edge(3, 4, 1, value), Edge(2, 5), Edge(1, 6)]
+            net = drawn(1, [INPUT, BUFFER, BUFFER, SELECTOR, *[OUTPUT] * 3], edges)
+            changes = {2: (1, 0), 3: (1, value), 4: (1, 0), 5: (0, 0)}
+            yield case(net, (with_edges(net, changes), [0, 0, 0, 1, 0, 0, 0]))
+    for words in product((0, 1), repeat=3):
+        for order in permutations(range(3)):
+            yield gone_over([1, 1, 1], words, order)
+    for counts in ((1, 2, 3), (3, 1, 2), (2, 3, 1), (0, 1, 1), (1, 0, 32), (5, 5, 7), (32, 32, 32), (9, 31, 30)):
+        for _ in range(2):
+            words = [rng.getrandbits(count) if count else 0 for count in counts]
+            yield gone_over(counts, words, rng.sample(range(3), 3))
+    for order in permutations(range(3)):
+        for values in product((0, 1), repeat=2):
+            one = shared(order, values)
+            yield one
+            yield case(mixed(rng, read(one.text)))
+
+
+def gone_over(counts: Sequence[int], words: Sequence[int], order: Sequence[int]) -> Case:
+    """A selector whose three edges, from inputs in this order, hold registers; as many as all three hold go over it."""
+    net = drawn(1, [*[INPUT] * 3, SELECTOR, OUTPUT], [
+        *(Edge(v, 3, count, word) for v, count, word in zip(order, counts, words)), Edge(3, 4)])
+    gone = min(counts)
+    word = sum((words[1 + (words[0] >> t & 1)] >> t & 1) << t for t in range(gone))
+    changes = {e: (counts[e] - gone, words[e] >> gone) for e in range(3)}
+    return case(net, (with_edges(net, {**changes, 3: (gone, word)}), [0, 0, 0, -gone, 0]))
+
+
+def shared(order: Sequence[int], values: tuple[int, int]) -> Case:
+    """Three values that are chosen behind slow buffers, and two selectors that see them, one as they stand, one in
+    this order: each has a register."""
+    slow, quick = (1, 2, 3), (4, 5, 6)
+    edges = [*(Edge(0, v) for v in slow), *(Edge(u, v) for u, v in zip(slow, quick)), *(Edge(v, 7) for v in quick),
+             *(Edge(quick[i], 8) for i in order), Edge(7, 9, 1, values[0]), Edge(8, 10, 1, values[1])]
+    net = drawn(200, [INPUT, *[BUFFER] * 6, SELECTOR, SELECTOR, OUTPUT, OUTPUT], edges)
+    net = replace(net, nodes=[Node(BUFFER, 200) if v in slow else node for v, node in enumerate(net.nodes)])
+    for bits in product((0, 1), repeat=3):
+        turned = [bits[i] for i in order]
+        if values == (bits[1 + bits[0]], turned[1 + turned[0]]):
+            changes = {**{3 + i: (1, bit) for i, bit in enumerate(bits)}, 12: (0, 0), 13: (0, 0)}
+            return case(net, (with_edges(net, changes), [*[0] * 4, *[1] * 5, 0, 0]))
+    return case(net, NO_START)
 
 
 def cone(rng: Random, chosen: int, levels: Sequence[int]) -> Netlist:
@@ -384,7 +460,7 @@ def cone(rng: Random, chosen: int, levels: Sequence[int]) -> Netlist:
             if earlier:
                 while len(seen) < 2 or rng.random() < 0.4 and len(seen) < 8:
                     seen.append(rng.choice(earlier))
-        kinds += [rng.choice(ONE_INPUT if len(seen) == 1 else MORE_INPUTS) for seen in sees]
+        kinds += [rng.choice(kinds_with(len(seen))) for seen in sees]
         edges += [Edge(u, v) for v, seen in zip(layer, sees) for u in seen]
         before, earlier = layer, earlier + layer
     for v in before:
@@ -472,7 +548,7 @@ def several_clocks(rng: Random, kind: int, inputs: int, depth: int, count: int) 
 def deep(rng: Random) -> Iterator[Case]:
     """Several clocks of chosen values."""
     for inputs, depth in ((2, 1), (2, 2), (2, 5), (2, 12), (3, 3), (3, 8), (4, 6), (5, 4), (8, 3), (2, 13), (5, 5)):
-        for kind in rng.sample(MORE_INPUTS, 4):
+        for kind in [*rng.sample(MORE_INPUTS, 4), *[SELECTOR] * (inputs == 3)]:
             net = several_clocks(rng, kind, inputs, depth, depth + rng.choice([0, 1, 2]))
             claim = TOO_MANY if inputs * depth > 24 else None
             yield case(net, claim)
@@ -565,7 +641,9 @@ def loops(rng: Random) -> Iterator[Case]:
         for _ in range(6):
             count = rng.randint(1, gates)
             registers = {e: 1 for e in rng.sample(range(gates), count)} if rng.random() < 0.5 else {0: count}
-            yield case(ring(rng, gates, registers, rng.randint(1, -(-gates // count) + 1)))
+            net = ring(rng, gates, registers, rng.randint(1, -(-gates // count) + 1))
+            yield case(net)
+            yield case(selecting(rng, net))
     for count in (1, 2, 31, 32):
         edges = [Edge(0, 1), Edge(1, 2), Edge(2, 2, count), Edge(2, 3, 1)]
         net = drawn(1, [INPUT, BUFFER, XOR, OUTPUT], edges)
@@ -578,6 +656,20 @@ def loops(rng: Random) -> Iterator[Case]:
         yield case(net)
         yield case(replace(net, period=2))
         yield case(mixed(rng, with_edges(net, {0: (0, 0)})))
+    for counts in ((0, 1, 2), (1, 1, 0), (2, 0, 1), (1, 1, 1), (0, 0, 0)):
+        edges = [Edge(0, 1, 1), *(Edge(1, 2, count) for count in counts), Edge(2, 3, 1), Edge(2, 3 + 1, 2)]
+        net = with_starts(rng, drawn(1, [INPUT, BUFFER, SELECTOR, OUTPUT, OUTPUT], edges))
+        yield case(net)
+        yield case(mixed(rng, with_edges(net, {0: (0, 0)})))
+    # what a selector holds, its loop with gates and more registers than one
+    for gates, count in ((1, 1), (2, 1), (2, 2), (3, 2), (5, 3)):
+        for at in range(3):
+            loop = [Edge(2 + i, 3 + i if i + 1 < gates else 2, count * (i + 1 == gates)) for i in range(gates)]
+            into = [Edge(0, 2), Edge(1, 2)]
+            edges = [*loop[:-1], *into[:at], loop[-1], *into[at:], Edge(1 + gates, 2 + gates, 1)]
+            kinds = [INPUT, INPUT, SELECTOR, *rng.choices(ONE_INPUT, k=gates - 1), OUTPUT]
+            for period in (1, 2, gates):
+                yield case(with_starts(rng, drawn(period, kinds, edges)))
 
 
 # --- Random netlists ----------------------------------------------------------------------------
@@ -667,6 +759,8 @@ def large(rng: Random) -> Iterator[Case]:
     yield case(mixed(rng, trunk(rng, 120, 31, 7)))
     yield case(mixed(rng, trunk(rng, 120, 32, 120)))
     yield case(trunk(rng, 60, 32, 1))
+    yield case(selecting(rng, trunk(rng, 255, 32, 256)))
+    yield case(mixed(rng, selecting(rng, trunk(rng, 120, 31, 7))))
     for period in (24, 40, 60):
         yield case(mixed(rng, correlator(rng, 16, period)))
     for period in (1, 511, 509):
@@ -709,6 +803,7 @@ def retiming_cases(seed: int) -> dict[str, list[Case]]:
         "rows": list(rows(Random(seed + 2))),
         "forks": list(forks(Random(seed + 3))),
         "gates": list(gates(Random(seed + 4))),
+        "selectors": list(selectors(Random(seed + 15))),
         "cones": list(cones(Random(seed + 5))),
         "searches": list(searches(Random(seed + 6))),
         "several clocks": list(deep(Random(seed + 7))),
@@ -745,6 +840,7 @@ def summary() -> None:
             notes["512 nodes or 1,024 edges"] += len(net.nodes) == 512 or len(net.edges) == 1024
             notes["self-edges"] += any(u == v for u, v in ends)
             notes["parallel edges"] += len(set(ends)) < len(ends)
+            notes["selectors"] += SELECTOR in {node.kind for node in net.nodes}
             try:
                 done = retime(one.text)
             except Refusal as refusal:
@@ -752,6 +848,8 @@ def summary() -> None:
                 continue
             answers["retimed"] += 1
             counts[done.chosen] += 1
+            notes["selectors that registers went over"] += any(
+                lag and node.kind == SELECTOR for node, lag in zip(net.nodes, done.lags))
             notes["lags of both signs"] += max(done.lags) > 0 > min(done.lags)
             notes["lags below -1,000"] += min(done.lags) < -1000
             notes["choices neither none nor all"] += 0 < done.choice < (1 << done.chosen) - 1

@@ -13,14 +13,14 @@ from __future__ import annotations
 
 from collections.abc import Iterable, Iterator, Sequence
 from dataclasses import dataclass, replace
-from itertools import product
+from itertools import permutations, product
 from random import Random
 
 from netlists import (
     CARDS, card_a, card_c, card_h, drawn, largest, line_of, random_small,
 )
 from reference import (
-    AND, BUFFER, INPUT, INVERTER, LINE, NAND, NODE, NOR, OR, OUTPUT, XNOR, XOR,
+    AND, BUFFER, INPUT, INVERTER, LINE, NAND, NODE, NOR, OR, OUTPUT, SELECTOR, XNOR, XOR,
     Edge, Netlist, Refusal, check_room, check_vectors, read, run, step, text_of,
 )
 
@@ -118,7 +118,7 @@ def gates(rng: Random) -> Iterator[Case]:
     for kind, rule in GATES.items():
         for n in range(2, 9):
             edges = [*(Edge(v, n) for v in range(n)), Edge(n, n + 1)]
-            rng.shuffle(edges)  # the order of edges bears on nothing
+            rng.shuffle(edges)  # the order of edges bears on nothing here
             net = drawn(1, [*[INPUT] * n, kind, OUTPUT], edges)
             vectors = list(product((0, 1), repeat=n))
             yield ran(net, sum(vectors, ()), (rule(sum(vector), n) for vector in vectors))
@@ -138,6 +138,105 @@ def gates(rng: Random) -> Iterator[Case]:
         seen = [(starts, starts), *given[:-1]]
         yield ran(drawn(1, kinds, edges), sum(given, ()),
                   (rule(sum(pair), 2) for pair in seen for rule in GATES.values()))
+
+
+# --- Selectors ----------------------------------------------------------------------------------
+
+
+def selected(select: Iterable[int], first: Iterable[int], second: Iterable[int]) -> Iterator[int]:
+    """"It gives the first when select is 0, the second when it is 1", clock by clock."""
+    return (b if s else a for s, a, b in zip(select, first, second))
+
+
+ROWS = sum(product((0, 1), repeat=3), ())  # 000 to 111
+
+
+def chooser(levels: int) -> Netlist:
+    """So many select inputs, then 2 ^ levels data inputs, of which they name one, the first highest: a tree of selectors."""
+    kinds = [INPUT] * (levels + (1 << levels))
+    edges, left = [], list(range(levels, len(kinds)))
+    for select in reversed(range(levels)):
+        pairs, left = zip(left[::2], left[1::2]), []
+        for first, second in pairs:
+            edges += [Edge(select, len(kinds)), Edge(first, len(kinds)), Edge(second, len(kinds))]
+            left.append(len(kinds))
+            kinds.append(SELECTOR)
+    return drawn(1, [*kinds, OUTPUT], [*edges, Edge(left[0], len(kinds))])
+
+
+def selectors(rng: Random) -> Iterator[Case]:
+    """Edge order against node order, edges from one node, registers on some of the three, trees."""
+    plain = drawn(1, [*[INPUT] * 3, SELECTOR, OUTPUT], [Edge(0, 3), Edge(1, 3), Edge(2, 3), Edge(3, 4)])
+    yield ran(plain, ROWS, [0, 0, 1, 1, 0, 1, 0, 1])
+    turned = replace(plain, edges=[Edge(2, 3), Edge(0, 3), Edge(1, 3), Edge(3, 4)])
+    yield ran(turned, ROWS, [0, 0, 0, 1, 1, 0, 1, 1])
+    for order in permutations(range(3)):  # whichever input is select, and wherever the other edge and the nodes stand
+        edges = [Edge(v, 3) for v in order]
+        seen = [ROWS[v::3] for v in order]
+        for at in range(4):
+            yield ran(replace(plain, edges=[*edges[:at], Edge(3, 4), *edges[at:]]), ROWS, selected(*seen))
+        yield ran(renumbered(replace(plain, edges=[*edges, Edge(3, 4)]), (2, 3, 4, 0, 1)), ROWS, selected(*seen))
+    # two or three of the edges from one node
+    for sources in product((0, 1), repeat=3):
+        edges = [*(Edge(v, 2) for v in sources), Edge(2, 3), Edge(0, 4), Edge(1, 5)]
+        net = drawn(1, [INPUT, INPUT, SELECTOR, OUTPUT, OUTPUT, OUTPUT], edges)
+        given = list(product((0, 1), repeat=2))
+        shown = selected(*([pair[v] for pair in given] for v in sources))
+        yield ran(net, sum(given, ()), (bit for pair, value in zip(given, shown) for bit in (value, *pair)))
+    for counts in product((0, 1, 2), repeat=3):
+        yield delayed_selector(rng, counts, [0, 0, 0])
+        yield delayed_selector(rng, counts, rng.sample(range(3), 3))
+    yield delayed_selector(rng, (32, 31, 0), [1, 0, 2])
+    yield delayed_selector(rng, (0, 32, 32), [0, 0, 0])
+    for levels in (1, 2, 3, 4):
+        net, inputs = chooser(levels), levels + (1 << levels)
+        vectors = [random_bits(rng, inputs) for _ in range(40)]
+        names = [int("".join(map(str, vector[:levels])), 2) for vector in vectors]
+        claim = [vector[levels + name] for vector, name in zip(vectors, names)]
+        yield ran(net, sum(vectors, []), claim)
+        backward = [*range(inputs), *reversed(range(inputs, len(net.nodes)))]
+        yield ran(renumbered(net, backward), sum(vectors, []), claim)
+
+
+def delayed_selector(rng: Random, counts: Sequence[int], sources: Sequence[int]) -> Case:
+    """A selector whose three edges come from these inputs through so many registers each."""
+    words = [rng.getrandbits(count) if count else 0 for count in counts]
+    inputs = max(sources) + 1
+    edges = [Edge(v, inputs, count, word) for v, count, word in zip(sources, counts, words)]
+    net = drawn(1, [*[INPUT] * inputs, SELECTOR, OUTPUT], [Edge(inputs, inputs + 1), *edges])
+    given = random_bits(rng, 40 * inputs)
+    seen = [delayed(bits_of(word, count), given[v::inputs]) for v, count, word in zip(sources, counts, words)]
+    return ran(net, given, selected(*seen))
+
+
+def held(rng: Random, count: int, starts: int, keep_first: bool) -> Case:
+    """A loop that a selector holds: the input select lets the input data in, else what went round comes again."""
+    loop, data = Edge(2, 2, count, starts), Edge(1, 2)
+    either = [loop, data] if keep_first else [data, loop]
+    net = drawn(1, [INPUT, INPUT, SELECTOR, OUTPUT], [Edge(0, 2), *either, Edge(2, 3)])
+    given = random_bits(rng, 2 * (2 * count + 9))
+    out: list[int] = []
+    for t, (select, bit) in enumerate(zip(given[::2], given[1::2])):
+        old = starts >> t & 1 if t < count else out[t - count]
+        out.append(bit if select == keep_first else old)
+    return ran(net, given, out)
+
+
+def selector_loops(rng: Random) -> Iterator[Case]:
+    """Selectors in loops: what is kept, what selects itself."""
+    for count in (1, 2, 5, 31, 32):
+        for starts in start_patterns(rng, count):
+            yield held(rng, count, starts, True)
+            yield held(rng, count, starts, False)
+    # it selects by what it gave before: the first input after a 0, the second after a 1
+    for count, starts in ((1, 0), (1, 1), (2, 1), (2, 2), (32, 0x0F0F3355)):
+        edges = [Edge(2, 2, count, starts), Edge(0, 2), Edge(1, 2), Edge(2, 3)]
+        net = drawn(1, [INPUT, INPUT, SELECTOR, OUTPUT], edges)
+        given = random_bits(rng, 2 * 70)
+        out: list[int] = []
+        for t, pair in enumerate(zip(given[::2], given[1::2])):
+            out.append(pair[starts >> t & 1 if t < count else out[t - count]])
+        yield ran(net, given, out)
 
 
 # --- Registers ----------------------------------------------------------------------------------
@@ -476,6 +575,8 @@ def running_cases(seed: int) -> dict[str, list[Case]]:
     return {
         "bench cards": list(cards(Random(seed))),
         "gates": list(gates(Random(seed + 1))),
+        "selectors": list(selectors(Random(seed + 9))),
+        "selectors in loops": list(selector_loops(Random(seed + 10))),
         "delay lines": list(delay_lines(Random(seed + 2))),
         "feedback": list(feedback(Random(seed + 3))),
         "reconvergence and order": list(reconvergence(Random(seed + 4))),

@@ -58,7 +58,8 @@ REFUSED: list[tuple[int, bytes, list[str]]] = [
     (1, A.replace(b"\n", b"\r\n"), ["carriage return"]),
     (1, A + b"020000\n", ["Line 9", "one too many"]),
     (2, changed(A, 1, b"0100013100040003"), ["derate is 49", "50 to 250"]),
-    (3, changed(A, 3, b"020A01"), ["Line 3", "no gate kind 0A"]),
+    (3, changed(A, 3, b"020B01"), ["Line 3", "no gate kind 0B", "last one is 0A"]),
+    (3, changed(A, 3, b"020A00"), ["selector", "1 to 255", "here it is 0"]),
     (3, changed(A, 3, b"020300"), ["inverter", "1 to 255", "here it is 0"]),
     (4, changed(A, 6, b"03000000090100000001"), ["Line 6", "edge 0", "enters node 9"]),
     (4, changed(A, 6, b"03000000012100000001"), ["33 registers"]),
@@ -66,6 +67,7 @@ REFUSED: list[tuple[int, bytes, list[str]]] = [
     (4, changed(A, 6, b"03000300010100000001"), ["leaves node 3", "output"]),
     (4, changed(A, 6, b"03000100000100000001"), ["enters node 0", "input"]),
     (5, wired([0, 4, 1], [Edge(0, 1), Edge(1, 2)]), ["AND 1 (line 3)", "1 in-edges", "2 to 8"]),
+    (5, wired([0, 10, 1], [Edge(0, 1), Edge(0, 1), Edge(1, 2)]), ["selector 1 (line 3)", "2 in-edges", "it must have 3"]),
     (6, wired([0, 4, 2, 1], [Edge(0, 1), Edge(1, 2), Edge(2, 1), Edge(2, 3)]), ["AND 1 to buffer 2 to AND 1"]),
     (7, wired([0, 2, 2, 1], [Edge(0, 1), Edge(2, 2, 1), Edge(1, 3)]), ["buffer 2 (line 4)", "from no input"]),
     (7, wired([0, 2, 2, 1], [Edge(0, 1), Edge(1, 2), Edge(1, 3)]), ["buffer 2", "reaches no output"]),
@@ -96,6 +98,9 @@ def listing_status() -> None:
     said = command("listing", "--explain", given=text_of(CARDS["G"])).stderr.decode()
     for words in ("Longest chain before: 2", "after: 1", "Registers before: 1, after: 2", "OR 4 by +1", "edge 3 (buffer 3 to OR 4): 1"):
         assert words in said, (words, said)
+    said = command("listing", "--explain", given=text_of(CARDS["S"])).stderr.decode()
+    for words in ("selector 6 by +1", "edge 3 (buffer 3 to selector 6): 0", "edge 4 (buffer 4 to selector 6): 1", "edge 5 (buffer 5 to selector 6): 0"):
+        assert words in said, (words, said)
 
 
 def listing_files() -> None:
@@ -116,9 +121,12 @@ def listing_files() -> None:
 
 
 def drawn() -> str:
+    dot = command("draw", "--dot", given=wired([0, 0, 0, 10, 1], [Edge(2, 3), Edge(3, 4), Edge(0, 3, 1), Edge(1, 3)])).stdout.decode()
+    for words in ('n2 -> n3 [headlabel="select"', 'nr2 -> n3 [headlabel="0"', 'n1 -> n3 [headlabel="1"', "selector 3"):
+        assert words in dot, (words, dot)
     if not shutil.which("dot"):
         return "left out: Graphviz is not installed"
-    for card in "ADG":
+    for card in "ADGS":
         done = command("draw", "--before-after", given=text_of(CARDS[card]))
         assert done.returncode == (1 if card == "D" else 0) and b"</svg>" in done.stdout, (card, done.stderr)
         assert (b"Retimed" in done.stdout) == (card != "D")
@@ -142,6 +150,12 @@ def blif_back() -> None:
         vectors = bytes(rng.randrange(2) for _ in range(40 * inputs))
         assert run(case, vectors, 40 * outputs) == run(back, vectors, 40 * outputs)
     assert blif.taken(blif.written(read(A)), 1, 100, {}) == A
+    # a selector in whichever order the cover has select, first and second
+    text = wired([0, 0, 0, 10, 1], [Edge(2, 3), Edge(0, 3), Edge(1, 3), Edge(3, 4)])
+    assert ".names n2 n0 n1 n3\n01- 1\n1-1 1\n" in blif.written(read(text))
+    for given in (".names s a b z\n01- 1\n1-1 1\n", ".names a s b z\n10- 1\n-11 1\n", ".names b a s z\n0-1 0\n-00 0\n"):
+        taken = blif.taken(f".model m\n.inputs a b s\n.outputs z\n{given}.end\n", 1, 100, {})
+        assert taken == text, (given, taken)
 
 
 UNTAKEN = [

@@ -7,7 +7,7 @@ Two in-edges of a gate from one signal are told apart by a wire of their own, w<
   --read               the other way: a text from BLIF with one model whose gates are those of the text format. Every latch needs the start value 0 or 1
   --period P           the head's period (default 65535)
   --derate D           the head's derate in percent (default 100)
-  --delay KIND=DELAY   the delay of a gate kind (buffer, inverter, and, or, xor, nand, nor, xnor; default 1)
+  --delay KIND=DELAY   the delay of a gate kind (buffer, inverter, and, or, xor, nand, nor, xnor, selector; default 1)
 
 Exit status: 0 written, 1 the text or the BLIF cannot be taken (said on standard error), 2 wrong usage.
 """
@@ -18,12 +18,12 @@ import re
 import sys
 from collections.abc import Iterator, Sequence
 from dataclasses import dataclass, field
-from itertools import product
+from itertools import permutations, product
 
 from explain import sentence
 from texts import KIND_NAMES, LONGEST_INPUT, netlist_of
 from reference import (
-    AND, BUFFER, INPUT, INVERTER, NAND, NOR, OR, OUTPUT, XNOR, XOR, Edge, Netlist, Node, Refusal, check_record, text_of,
+    AND, BUFFER, INPUT, INVERTER, NAND, NOR, OR, OUTPUT, SELECTOR, XNOR, XOR, Edge, Netlist, Node, Refusal, check_record, text_of,
 )
 
 
@@ -31,10 +31,10 @@ from reference import (
 
 
 def cover_of(kind: int, inputs: int) -> Iterator[str]:
-    """The rows of `.names` for a gate: each row of inputs that gives 1; for AND, OR and their inverses the short form.
+    """The rows of `.names` for a gate: each row of inputs that gives 1; for AND, OR, their inverses and selectors the short form.
 
-    >>> list(cover_of(AND, 3)), list(cover_of(NOR, 2)), list(cover_of(XOR, 2))
-    (['111 1'], ['00 1'], ['01 1', '10 1'])
+    >>> list(cover_of(AND, 3)), list(cover_of(NOR, 2)), list(cover_of(XOR, 2)), list(cover_of(SELECTOR, 3))
+    (['111 1'], ['00 1'], ['01 1', '10 1'], ['01- 1', '1-1 1'])
     """
     if kind in (OUTPUT, BUFFER, INVERTER):
         yield "0 1" if kind == INVERTER else "1 1"
@@ -43,6 +43,8 @@ def cover_of(kind: int, inputs: int) -> Iterator[str]:
     elif kind in (OR, NAND):
         for i in range(inputs):
             yield "-" * i + ("1" if kind == OR else "0") + "-" * (inputs - 1 - i) + " 1"
+    elif kind == SELECTOR:
+        yield from ("01- 1", "1-1 1")
     else:
         for row in product("01", repeat=inputs):
             if row.count("1") % 2 == (kind == XOR):
@@ -168,15 +170,20 @@ def table_of(inputs: int, cover: Sequence[str]) -> list[int]:
     return [listed if any(on.match(row) for on in ons) else 1 - listed for row in rows]
 
 
-def kind_of(signal: str, inputs: int, cover: Sequence[str]) -> int:
-    """The gate kind of a cover."""
+def gate_of(signal: str, ins: Sequence[str], cover: Sequence[str]) -> tuple[int, Sequence[str]]:
+    """The gate kind of a cover, and its inputs in the order that its edges have: of a selector select, first, second, in
+    whichever order the cover has them.
+    """
+    inputs = len(ins)
     if not 1 <= inputs <= 8:
         raise CannotTake(f"the gate {signal} has {inputs} inputs; a gate has 1 to 8" + (" (there are no constants)" if inputs == 0 else ""))
-    table = table_of(inputs, cover)
-    kinds = (BUFFER, INVERTER) if inputs == 1 else (AND, OR, XOR, NAND, NOR, XNOR)
+    kinds = (BUFFER, INVERTER) if inputs == 1 else (AND, OR, XOR, NAND, NOR, XNOR, *[SELECTOR] * (inputs == 3))
+    table, rows = table_of(inputs, cover), list(product((0, 1), repeat=inputs))
     for kind in kinds:
-        if table == table_of(inputs, list(cover_of(kind, inputs))):
-            return kind
+        value = dict(zip(rows, table_of(inputs, list(cover_of(kind, inputs)))))
+        for order in permutations(range(inputs)) if kind == SELECTOR else [range(inputs)]:
+            if table == [value[tuple(row[i] for i in order)] for row in rows]:
+                return kind, [ins[i] for i in order]
     raise CannotTake(f"the gate {signal} is none of {', '.join(KIND_NAMES[kind] for kind in kinds)}; its cover: {'; '.join(cover)}")
 
 
@@ -213,9 +220,9 @@ def netlist_from(model: Model, period: int, derate: int, delays: dict[int, int])
 
     for signal in inner:
         ins, cover = model.gates[signal]
-        kind = kind_of(signal, len(ins), cover)
+        kind, entering = gate_of(signal, ins, cover)
         nodes.append(Node(kind, delays.get(kind, 1)))
-        for one in ins:
+        for one in entering:
             enter(one, number[signal])
     for signal in model.outputs:
         enter(model.gates[signal][0][0] if signal in pins else signal, len(nodes))

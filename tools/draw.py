@@ -1,7 +1,7 @@
 """usage: draw [--before-after] [--dot] < TEXT > PICTURE.svg
 
 Draws a netlist text (Graphviz): nodes by kind and number with their working delay, the registers of each edge with their start values
-in the order in which the entered node sees them, the longest chain in red.
+in the order in which the entered node sees them, a selector's in-edges by their parts, the longest chain in red.
 
   --before-after    the original and the retimed netlist side by side, with each node's lag
   --dot             writes Graphviz's own language instead of a picture
@@ -17,9 +17,10 @@ from collections.abc import Sequence
 
 from explain import sentence
 from texts import LONGEST_INPUT, kind_name, longest_chain, netlist_of, printed_by, values_of, working_delay
-from reference import INPUT, OUTPUT, Netlist, Refusal
+from reference import INPUT, OUTPUT, SELECTOR, Netlist, Refusal
 
 SHAPES = {INPUT: "ellipse", OUTPUT: "ellipse"}
+PARTS = ("select", "0", "1")  # of a selector's in-edges, by edge number: which value of select asks for it
 HOT = "#c0392b"
 
 
@@ -56,20 +57,35 @@ def node_lines(net: Netlist, prefix: str, lags: Sequence[int], chain: Sequence[i
     return lines
 
 
+def bracketed(marks: Sequence[str]) -> str:
+    """The marks of an edge, where it has some."""
+    return f" [{', '.join(marks)}]" if marks else ""
+
+
+def part_marks(net: Netlist, e: int) -> list[str]:
+    """At the head of an edge into a selector: which part of it the edge is."""
+    target = net.edges[e].target
+    if net.nodes[target].kind != SELECTOR:
+        return []
+    earlier = sum(edge.target == target for edge in net.edges[:e])
+    return [f"headlabel={quoted(PARTS[earlier])}", "labeldistance=1.6"]
+
+
 def edge_lines(net: Netlist, prefix: str, chain: Sequence[int]) -> list[str]:
     """The edges; the registers of one are a box on its way, so that no label lies on a line."""
     hot = set(zip(chain, chain[1:]))
     lines = []
     for e, edge in enumerate(net.edges):
         here, there = f"{prefix}{edge.source}", f"{prefix}{edge.target}"
+        marks = part_marks(net, e)
         if edge.count:
             box = f"{prefix}r{e}"
             label = quoted(register_label(edge.count, edge.starts))
             lines.append(f'  {box} [shape=box, style=filled, fillcolor="#d6eaf8", fontname=Courier, fontsize=10, margin="0.06,0.03", label={label}];')
-            lines.append(f"  {here} -> {box} [arrowhead=none]; {box} -> {there};")
+            lines.append(f"  {here} -> {box} [arrowhead=none]; {box} -> {there}{bracketed(marks)};")
         else:
-            mark = f" [color={quoted(HOT)}, penwidth=2.2]" if (edge.source, edge.target) in hot else ""
-            lines.append(f"  {here} -> {there}{mark};")
+            marks += [f"color={quoted(HOT)}", "penwidth=2.2"] if (edge.source, edge.target) in hot else []
+            lines.append(f"  {here} -> {there}{bracketed(marks)};")
     return lines
 
 

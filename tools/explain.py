@@ -10,7 +10,7 @@ import re
 from collections.abc import Callable, Iterator, Sequence
 
 from texts import (
-    LONGEST_INPUT, Printed, edge_name, kind_name, longest_chain, netlist_of, node_name, printed_by, values_of, working_delay,
+    LONGEST_INPUT, Printed, edge_name, kind_name, longest_chain, netlist_of, node_name, printed_by, working_delay,
 )
 from reference import (
     EDGE_LINE, GATE_RULES, HEAD_LINE, INPUT, NODE_LINE, OUTPUT, Edge, Netlist, Node, Refusal, line_numbers, reached,

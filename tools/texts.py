@@ -24,7 +24,7 @@ sys.path.insert(0, str(ROOT / "tests"))
 
 from reference import INPUT, OUTPUT, Netlist, Refusal, read  # noqa: E402  (the path comes first)
 
-KIND_NAMES = ("input", "output", "buffer", "inverter", "AND", "OR", "XOR", "NAND", "NOR", "XNOR")
+KIND_NAMES = ("input", "output", "buffer", "inverter", "AND", "OR", "XOR", "NAND", "NOR", "XNOR", "selector")
 LONGEST_INPUT = 32768  # "a text of up to 32,768 bytes (more decides nothing)"
 PROGRAM = ROOT / "target" / "bin" / "listing"
 

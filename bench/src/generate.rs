@@ -1,6 +1,6 @@
 //! Netlists, texts and vectors to try: sound ones of any size, and damaged ones. The same on every machine.
 
-use crate::reference::{evaluation_order, write, Edge, Netlist, Node, INPUT, OUTPUT};
+use crate::reference::{bit_of, evaluation_order, truth, write, Edge, Netlist, Node, INPUT, OUTPUT, SELECTOR};
 use crate::retiming::working_delays;
 use std::ops::Range;
 
@@ -51,6 +51,15 @@ impl Random {
     }
 }
 
+/// A gate kind for so many in-edges: half of the gates with three are selectors.
+fn kind_with(rng: &mut Random, inputs: usize) -> u8 {
+    match inputs {
+        1 => rng.pick(&[BUFFER, INVERTER]),
+        3 if rng.one_in(2) => SELECTOR,
+        _ => rng.among(4, 9) as u8,
+    }
+}
+
 /// Registers on an edge: often none, seldom many; bits below the count.
 fn registers(rng: &mut Random, least: u8) -> (u8, u32) {
     let count = match rng.below(8) {
@@ -83,7 +92,7 @@ pub fn sound(rng: &mut Random, inputs: usize, gates: usize, outputs: usize, edge
     let mut idle: std::collections::VecDeque<usize> = (0..inputs).collect();
     for (i, &n) in fan_in.iter().enumerate() {
         let gate = inputs + i;
-        kinds.push(if n == 1 { rng.among(2, 3) } else { rng.among(4, 9) } as u8);
+        kinds.push(kind_with(rng, n));
         let first = idle.pop_front().expect("no more outputs than idle nodes");
         wires.push((first, gate, registers(rng, 0)));
         for _ in 1..n {
@@ -168,7 +177,7 @@ pub fn damage_netlist(rng: &mut Random, net: &mut Netlist) {
         match rng.below(14) {
             0 => net.period = rng.pick(&[0, 1, 65535]),
             1 => net.derate = rng.pick(&[0, 49, 50, 250, 251, 255]),
-            2 => net.nodes[v].kind = rng.below(12) as u8,
+            2 => net.nodes[v].kind = rng.below(13) as u8,
             3 => net.nodes[v].delay = rng.pick(&[0, 1, 255]),
             4..=6 => net.edges[edge].from = some,
             7 | 8 => net.edges[edge].to = some,
@@ -189,14 +198,6 @@ pub fn damage_netlist(rng: &mut Random, net: &mut Netlist) {
 // --- For retiming ---------------------------------------------------------------------------------
 //
 // The shapes of tests/retiming_cases.py: random netlists as they come seldom choose a value.
-
-fn one_input(rng: &mut Random) -> u8 {
-    rng.pick(&[BUFFER, INVERTER])
-}
-
-fn more_inputs(rng: &mut Random) -> u8 {
-    rng.among(4, 9) as u8
-}
 
 fn edge(from: usize, to: usize, count: u8) -> Edge {
     Edge { from: from as u16, to: to as u16, count, start: 0 }
@@ -225,19 +226,40 @@ fn with_starts(rng: &mut Random, mut net: Netlist) -> Netlist {
     net
 }
 
-/// The same netlist with its nodes and edges in another order.
+/// The same netlist with its nodes and edges in another order; those that enter one selector stay in theirs.
 pub fn mixed(rng: &mut Random, net: &Netlist) -> Netlist {
     let mut number: Vec<u16> = (0..net.nodes.len() as u16).collect();
     rng.shuffle(&mut number);
+    let mut order: Vec<usize> = (0..net.edges.len()).collect();
+    rng.shuffle(&mut order);
     let mut new = net.clone();
-    for (&v, &node) in number.iter().zip(&net.nodes) {
-        new.nodes[usize::from(v)] = node;
+    for (v, &node) in net.nodes.iter().enumerate() {
+        new.nodes[usize::from(number[v])] = node;
+        if node.kind == SELECTOR {
+            let places: Vec<usize> = (0..order.len()).filter(|&at| usize::from(net.edges[order[at]].to) == v).collect();
+            let mut entering: Vec<usize> = places.iter().map(|&at| order[at]).collect();
+            entering.sort_unstable();
+            places.into_iter().zip(entering).for_each(|(at, e)| order[at] = e);
+        }
     }
-    for edge in &mut new.edges {
-        (edge.from, edge.to) = (number[usize::from(edge.from)], number[usize::from(edge.to)]);
+    for (edge, e) in new.edges.iter_mut().zip(order) {
+        let Edge { from, to, .. } = net.edges[e];
+        *edge = Edge { from: number[usize::from(from)], to: number[usize::from(to)], ..net.edges[e] };
     }
-    rng.shuffle(&mut new.edges);
     new
+}
+
+/// Some gates with two in-edges made selectors: one of the two twice, and the three in any order.
+pub fn selecting(rng: &mut Random, mut net: Netlist) -> Netlist {
+    for v in 0..net.nodes.len() {
+        let entering: Vec<Edge> = net.edges.iter().filter(|e| usize::from(e.to) == v).copied().collect();
+        if entering.len() == 2 && net.edges.len() < 1024 && rng.one_in(2) {
+            net.nodes[v].kind = SELECTOR;
+            net.edges.push(rng.pick(&entering));
+        }
+    }
+    rng.shuffle(&mut net.edges);
+    net
 }
 
 /// Two netlists next to each other, with the head of the first.
@@ -303,7 +325,7 @@ pub fn any_fork(rng: &mut Random) -> Netlist {
             ((moved + more) as u8, start as u32)
         })
         .collect();
-    let kinds: Vec<u8> = (0..=moved).map(|_| one_input(rng)).collect();
+    let kinds: Vec<u8> = (0..=moved).map(|_| kind_with(rng, 1)).collect();
     fork(&kinds, &branches)
 }
 
@@ -327,7 +349,7 @@ pub fn cone(rng: &mut Random, chosen: usize, levels: &[usize]) -> Netlist {
             while !earlier.is_empty() && (seen.len() < 2 || seen.len() < 8 && rng.below(5) < 2) {
                 seen.push(rng.pick(&earlier));
             }
-            kinds.push(if seen.len() == 1 { one_input(rng) } else { more_inputs(rng) });
+            kinds.push(kind_with(rng, seen.len()));
             edges.extend(seen.iter().map(|&u| edge(u, v, 0)));
         }
         earlier.extend_from_slice(&layer);
@@ -343,19 +365,19 @@ pub fn cone(rng: &mut Random, chosen: usize, levels: &[usize]) -> Netlist {
 /// A cone whose registers hold what random values behind its slow buffers give: some choice carries the start.
 pub fn carried(rng: &mut Random, mut net: Netlist) -> Netlist {
     let order = evaluation_order(&net).expect("a sound netlist");
-    let mut value = vec![0; net.nodes.len()];
+    let mut values = vec![0; net.nodes.len()];
     for v in order {
         let node = net.nodes[usize::from(v)];
         if node.delay == 200 {
-            value[usize::from(v)] = rng.below(2); // what stands behind it, before the one gate that it feeds
+            values[usize::from(v)] = rng.below(2) as u32; // what stands behind it, before the one gate that it feeds
         } else if node.kind > OUTPUT {
-            let seen: Vec<usize> = net.edges.iter().filter(|e| e.to == v).map(|e| value[usize::from(e.from)]).collect();
-            let ones = seen.iter().sum::<usize>();
-            value[usize::from(v)] = usize::from(crate::reference::truth(node.kind, seen.len()) >> ones) & 1;
+            let seen: Vec<u32> = net.edges.iter().filter(|e| e.to == v).map(|e| values[usize::from(e.from)]).collect();
+            let truth = truth(node.kind, seen.len());
+            values[usize::from(v)] = u32::from(truth) >> bit_of(truth, seen.into_iter()) & 1;
         }
     }
     for edge in net.edges.iter_mut().filter(|edge| edge.count == 1) {
-        edge.start = value[usize::from(edge.from)] as u32;
+        edge.start = values[usize::from(edge.from)];
     }
     net
 }
@@ -413,9 +435,9 @@ pub fn deep(rng: &mut Random, inputs: usize, depth: usize) -> Netlist {
         let first = 1 + row * depth;
         edges.push(edge(0, first, 0));
         edges.extend((first..first + depth).map(|v| edge(v, if v + 1 < first + depth { v + 1 } else { gate }, 0)));
-        kinds.extend((0..depth).map(|_| one_input(rng)));
+        kinds.extend((0..depth).map(|_| kind_with(rng, 1)));
     }
-    kinds.extend([more_inputs(rng), OUTPUT]);
+    kinds.extend([kind_with(rng, inputs), OUTPUT]);
     edges.push(edge(gate, gate + 1, (depth + rng.below(3)) as u8));
     with_starts(rng, drawn(1, &kinds, edges))
 }
@@ -424,7 +446,7 @@ pub fn deep(rng: &mut Random, inputs: usize, depth: usize) -> Netlist {
 pub fn ring(rng: &mut Random, registers: &[u8], period: u16) -> Netlist {
     let gates = registers.len();
     let mut kinds = vec![INPUT, XOR];
-    kinds.extend((1..gates).map(|_| one_input(rng)));
+    kinds.extend((1..gates).map(|_| kind_with(rng, 1)));
     kinds.push(OUTPUT);
     let mut edges = vec![edge(0, 1, 0)];
     edges.extend(registers.iter().enumerate().map(|(i, &count)| edge(1 + i, 1 + (i + 1) % gates, count)));
@@ -446,7 +468,8 @@ pub fn any_ring(rng: &mut Random) -> Netlist {
         rng.shuffle(&mut registers);
     }
     let period = rng.among(1, gates.div_ceil(count) + 1) as u16;
-    ring(rng, &registers, period)
+    let net = ring(rng, &registers, period);
+    selecting(rng, net)
 }
 
 /// A trunk of buffers with so many registers before each, and a row of gates that it feeds backward: a buffer's lag falls by
@@ -454,7 +477,7 @@ pub fn any_ring(rng: &mut Random) -> Netlist {
 pub fn trunk(rng: &mut Random, length: usize, spacing: u8, period: u16) -> Netlist {
     let mut kinds = vec![BUFFER; 1 + length];
     kinds[0] = INPUT;
-    kinds.extend((1..length).map(|_| more_inputs(rng)));
+    kinds.extend((1..length).map(|_| kind_with(rng, 2)));
     kinds.push(OUTPUT);
     let mut edges: Vec<Edge> = (0..length).map(|v| edge(v, v + 1, spacing)).collect();
     let mut before = length;
@@ -471,7 +494,7 @@ pub fn trunk(rng: &mut Random, length: usize, spacing: u8, period: u16) -> Netli
 pub fn long_row(rng: &mut Random) -> Netlist {
     let gates = rng.among(90, 510);
     let mut kinds = vec![INPUT];
-    kinds.extend((0..gates).map(|_| one_input(rng)));
+    kinds.extend((0..gates).map(|_| kind_with(rng, 1)));
     kinds.push(OUTPUT);
     let mut edges: Vec<Edge> = (0..=gates).map(|v| edge(v, v + 1, 0)).collect();
     for _ in 0..rng.below(5) {
@@ -546,14 +569,15 @@ pub fn any_retimable(rng: &mut Random, most: usize) -> Netlist {
         }
         12 => {
             let (inputs, depth) =
-                rng.pick(&[(2, 1), (2, 2), (2, 5), (2, 7), (3, 3), (4, 3), (5, 2), (8, 1), (2, 13), (5, 5)]);
+                rng.pick(&[(2, 1), (2, 5), (2, 7), (3, 1), (3, 3), (3, 5), (4, 3), (8, 1), (2, 13), (5, 5)]);
             deep(rng, inputs, depth)
         }
         13 | 14 => any_ring(rng),
         _ => {
             let length = rng.among(2, 20);
             let (spacing, period) = (rng.pick(&[1, 2, 8, 31, 32]), rng.among(1, length + 2));
-            trunk(rng, length, spacing, period as u16)
+            let net = trunk(rng, length, spacing, period as u16);
+            selecting(rng, net)
         }
     };
     if rng.one_in(10) && net.nodes.len() < 60 {

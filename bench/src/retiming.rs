@@ -4,7 +4,9 @@
 //! values that hang on it, in an order found once; it goes from choice to choice as the proved one does, so that the two can be
 //! timed against each other. The other new start values are what the original shows.
 
-use crate::reference::{put_netlist, read, read_with_order, truth, Answer, Engine, Lists, Netlist, Refusal, OUTPUT};
+use crate::reference::{
+    bit_of, put_netlist, read, read_with_order, truth, Answer, Engine, Lists, Netlist, Refusal, OUTPUT,
+};
 use std::cmp::Reverse;
 use std::collections::BinaryHeap;
 
@@ -278,12 +280,12 @@ impl Search {
         'choices: loop {
             for (cell, signal) in self.cells[at..].iter().zip(k as usize + at..) {
                 let shown = |s: u16| u32::from(signals[usize::from(s)]);
-                let ones = match self.sees[cell.first as usize..cell.end as usize] {
+                let bit = match self.sees[cell.first as usize..cell.end as usize] {
                     [one] => shown(one),
                     [one, other] => shown(one) + shown(other),
-                    ref all => all.iter().map(|&s| shown(s)).sum(),
+                    ref all => bit_of(cell.truth, all.iter().map(|&s| shown(s))),
                 };
-                let value = (cell.truth >> ones & 1) as u8;
+                let value = (cell.truth >> bit & 1) as u8;
                 signals[signal % SIGNALS] = value;
                 if cell.wanted != FREE && cell.wanted != value {
                     let below = k - u32::from(cell.hangs_on);

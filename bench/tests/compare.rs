@@ -3,7 +3,7 @@
 
 use bench::generate::{
     any_cone, any_retimable, any_sound, damage_netlist, damage_text, largest, long_row, longest_chain, mixed, parities,
-    ring, slowest_accepted, slowest_infeasible, text_of, thinned, trunk, Random,
+    ring, selecting, slowest_accepted, slowest_infeasible, text_of, thinned, trunk, Random,
 };
 use bench::reference::{self, Answer, Netlist, INPUT, OUTPUT};
 use bench::retiming::{self, Figures};
@@ -401,6 +401,7 @@ fn any_large(rng: &mut Random) -> Netlist {
             net
         }
     };
+    let net = if rng.one_in(3) { selecting(rng, net) } else { net };
     if rng.one_in(2) {
         mixed(rng, &net)
     } else {

@@ -39,6 +39,17 @@ static const char CARD_H[] = "0100016400030003\n"
                              "020000\n020601\n020100\n"
                              "03000000010000000000\n03000100010100000000\n03000100020000000000\n";
 
+/* Card S: three inputs, each with a buffer, into a selector, register 1, output. */
+static const char CARD_S[] = "0100016400080007\n"
+                             "020000\n020000\n020000\n020201\n020201\n020201\n020A01\n020100\n"
+                             "03000000030000000000\n03000100040000000000\n03000200050000000000\n"
+                             "03000300060000000000\n03000400060000000000\n03000500060000000000\n03000600070100000001\n";
+
+static const char CARD_S_RETIMED[] = "0100016400080007\n"
+                                     "020000\n020000\n020000\n020201\n020201\n020201\n020A01\n020100\n"
+                                     "03000000030000000000\n03000100040000000000\n03000200050000000000\n"
+                                     "03000300060100000000\n03000400060100000001\n03000500060100000000\n03000600070000000000\n";
+
 static const uint8_t H_VECTORS[] = {1, 0, 1, 1};
 static const uint8_t H_OUTPUTS[] = {1, 1, 0, 1};
 
@@ -108,6 +119,10 @@ static void checking_and_writing(void) {
     net.kind[2] = 4;
     CHECK(refused(retimer_check(&net), 5, RETIMER_NODE, 2));
     CHECK(refused(retimer_write(&net, out, sizeof out), 5, RETIMER_NODE, 2));
+    net.kind[2] = 10;
+    CHECK(refused(retimer_check(&net), 5, RETIMER_NODE, 2));
+    net.kind[2] = 11;
+    CHECK(refused(retimer_check(&net), 3, RETIMER_LINE, 4));
     CHECK(all(out, 0x5A, sizeof out));
 
     memset(out, 0x5A, sizeof out);
@@ -173,6 +188,34 @@ static void retiming(void) {
     CHECK(all(out, 0x5A, sizeof out) && all(lags, 0x5A, sizeof lags));
 }
 
+/* A selector: every row of inputs, its edges turned, and a start that is chosen for it. */
+static void selecting(void) {
+    static struct retimer_netlist net;
+    uint8_t text[sizeof CARD_S], vectors[9 * 3] = {0}, out[9];
+    int32_t lags[8];
+    size_t len = strlen(CARD_S);
+    const uint8_t shown[] = {1, 0, 0, 1, 1, 0, 1, 0, 1}; /* the register, then 000 to 111 */
+    const uint8_t turned[] = {1, 0, 0, 0, 1, 1, 0, 1, 1};
+    for (unsigned i = 0; i < 8 * 3; i++) {
+        vectors[i] = (uint8_t)((i / 3) >> (2 - i % 3) & 1);
+    }
+    CHECK(retimer_run(bytes(CARD_S), len, vectors, sizeof vectors, out, sizeof out) == sizeof out);
+    CHECK(memcmp(out, shown, sizeof out) == 0);
+    CHECK(retimer_retime(bytes(CARD_S), len, text, sizeof text, lags, 8) == 3);
+    CHECK(memcmp(text, CARD_S_RETIMED, len) == 0 && lags[6] == 1 && all(lags, 0, 6 * sizeof *lags) && lags[7] == 0);
+    CHECK(retimer_run(text, len, vectors, sizeof vectors, out, sizeof out) == sizeof out);
+    CHECK(memcmp(out, shown, sizeof out) == 0);
+
+    /* select from the third input, the lowest edge; first and second from the others */
+    CHECK(retimer_read(bytes(CARD_S), len, &net) == 0);
+    net.from[3] = 5;
+    net.from[4] = 3;
+    net.from[5] = 4;
+    CHECK(retimer_write(&net, text, sizeof text) == len);
+    CHECK(retimer_run(text, len, vectors, sizeof vectors, out, sizeof out) == sizeof out);
+    CHECK(memcmp(out, turned, sizeof out) == 0);
+}
+
 static int figures_are(struct retimer_figures figures, uint32_t registers, uint32_t largest, uint32_t number) {
     return figures.registers == registers && figures.largest == largest && figures.number == number;
 }
@@ -189,6 +232,8 @@ static void quoting(void) {
     /* retiming refuses card D 11, and SLOW_F 8 at its head's period */
     CHECK(retimer_quote(bytes(CARD_D), strlen(CARD_D), &figures) == 1);
     CHECK(figures_are(figures, 1, 1, 1));
+    CHECK(retimer_quote(bytes(CARD_S), strlen(CARD_S), &figures) == 1);
+    CHECK(figures_are(figures, 3, 1, 3));
     CHECK(retimer_quote(bytes(SLOW_F), strlen(SLOW_F), &figures) == 2 * 638);
     CHECK(figures_are(figures, 0, 0, 0));
 
@@ -214,6 +259,7 @@ int main(void) {
     stepping();
     running();
     retiming();
+    selecting();
     quoting();
     if (failures == 0) {
         puts("all as document 01 says");

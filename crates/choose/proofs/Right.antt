@@ -38,7 +38,7 @@ use Rattle.choose.specs.inner.Dues.{cellAt, Celled, Dues}
 use Rattle.moves.specs.inner.Moving.{Moving, Choosing}
 use Rattle.choose.specs.inner.Wires.{Chooses, Entering, Wirable, Standing}
 use Rattle.moves.proofs.Labels.{from-node, low-nodes, low-edges}
-use Rattle.netlist.proofs.Lowest.{kind-low, fan-low}
+use Rattle.netlist.proofs.Lowest.{kind-low, fan-low, fan-three}
 use Rattle.choose.proofs.Arranged.{ordered-arranged}
 use Rattle.choose.proofs.Owing.{owes-cells}
 use Rattle.choose.proofs.Columns.{celled, compiled}
@@ -184,9 +184,10 @@ module _ {net : Netlist} {lab counts base : List ℕ} {k : ℕ} (ch : Choosing n
           few-cells = few-cells;
           kind-rows = omega (arith, few-cells);
           first-rows = omega (arith, few-cells);
-          gates = λ i h. subst (λ x. x < 10) (sym (ks i h)) (kind-low net (m .labelled .fit) (at code i / 32) (node-low i h));
+          gates = λ i h. subst (λ x. x < 11) (sym (ks i h)) (kind-low net (m .labelled .fit) (at code i / 32) (node-low i h));
           rising = λ i h. omega (arith, begins i h);
           few-ins = λ i h. omega (arith, begins i h, sorts-width (net .to) (net .nodes) (net .edges) (fit-wired net (m .labelled .fit) .dst-in) (g .room) (g .sorts) (at code i / 32) (node-low i h), fan-low net (m .steppable .fans) (at code i / 32) (node-low i h));
+          selectors = λ i h e. omega (arith, begins i h, sorts-width (net .to) (net .nodes) (net .edges) (fit-wired net (m .labelled .fit) .dst-in) (g .room) (g .sorts) (at code i / 32) (node-low i h), fan-three net (m .steppable .fans) (at code i / 32) (node-low i h) (sym (ks i h) ∙ e));
           in-rows = λ i h. omega (arith, begins i h, few-places, sum-more (widthAt begin code) i, sum-grows (widthAt begin code) (i + 1) cells (omega arith));
           earlier = earlier;
         }

@@ -4,6 +4,8 @@
 --   all-ones, ones-all, some-ones, ones-some    the sum says whether all are 1, and whether one is
 --   inverses            inverter, NAND, NOR and XNOR give the opposite of buffer, AND, OR and XOR
 --   passes              an output and a buffer give what they see, an inverter the opposite
+--   others-count        of all gates but the selector the number of ones decides
+--   selects             the selector gives the first where select is 0, the second where it is 1
 --   and-all, or-any, xor-odd, nand-all, nor-any, xnor-even    when each gate gives 1, of a list of bits
 use Prim.Native.Nat.{ℕ, zero, suc, _+_, _-_, _%_, _<_, _≤_}
 use native.Mathlib.Omega.{arith}
@@ -14,8 +16,8 @@ use mathlib.Core.Bool.{Bool, true, false, cond}
 use mathlib.Core.List.{List, [], _∷_}
 use lib.Dec.{eqb}
 use lib.ListN.{length, getD}
-use borrow.Author.Tests.{eqb-true, eqb-false}
-use Rattle.theory.specs.Gate.{ones, gate}
+use borrow.Author.Tests.{eqb-true, eqb-false, ne-eqb}
+use Rattle.theory.specs.Gate.{ones, gateBy, gate}
 use Rattle.theory.proofs.clocks.Gate.{gate-bit}
 use Rattle.gates.specs.inner.Gates.{AllBits}
 use Rattle.gates.proofs.Words.{ones-few}
@@ -63,6 +65,12 @@ ones-some (a ∷ l) zero q = omega arith
 ones-some (a ∷ l) (suc i) q = omega (arith, ones-some l i q)
 
 -- ── The gates ───────────────────────────────────────────────────────────────────────────────
+
+pub others-count : (k : ℕ) (l : List ℕ) → ¬ (k ≡ 10) → gate k l ≡ gateBy k (length l) (ones l)
+others-count k l n = rw (ne-eqb k 10 n)
+
+pub selects : (first second : ℕ) → first ≤ 1 → second ≤ 1 → (gate 10 (0 ∷ first ∷ second ∷ []) ≡ first) × (gate 10 (1 ∷ first ∷ second ∷ []) ≡ second)
+selects first second f s = (omega arith, omega arith)
 
 pub inverses : (l : List ℕ) → (gate 3 l ≡ 1 - gate 2 l) × (gate 7 l ≡ 1 - gate 4 l) × (gate 8 l ≡ 1 - gate 5 l) × (gate 9 l ≡ 1 - gate 6 l)
 inverses l = (omega arith, refl, omega arith, refl)

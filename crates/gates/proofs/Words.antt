@@ -1,14 +1,14 @@
--- Bits gathered in a word, and the crate's theorem: a truth word works.
+-- Bits gathered in a word.
 --   part-none, part-more, part-length, part-at    a part of a list: of no place, the first place apart, how long, what stands there
 --   bits-map            what a part of a list of bits shows is bits
 --   word-none, word-more, word-wider    how large the gathered word is: of no bit, with one bit more, at the end
+--   word-below          so large at most
 --   seed-narrow         the seed of a truth word that has nothing below its seed
 --   ones-few            a sum of bits is no more than how many there are
 --   ones-from           it has the ones of the seed and one for each bit that is 1
---   works               a word that has the values of a gate of n inputs, one for each number of ones, works
 use Prim.Native.Nat.{ℕ, zero, suc, _+_, _-_, _*_, _^_, _/_, _<_, _≤_}
 use native.Mathlib.Omega.{arith}
-use native.Mathlib.Nat.{pow-suc, mul-assoc, mul-le-mul-left}
+use native.Mathlib.Nat.{pow-suc, mul-assoc, mul-comm, mul-le-mul-left, mul-le-mul-right}
 use native.Mathlib.Numerals.{add-one}
 use mathlib.Core.Path.{_≡_, refl, sym, ap, ap₂, _∙_, subst}
 use mathlib.Core.List.{List, [], _∷_, map}
@@ -16,10 +16,9 @@ use lib.Count.{ones, ones-cat}
 use lib.Pow.{pow-mono}
 use lib.ListN.{length, take, drop, length-take, length-drop}
 use lib.Seq.{drop-cons, getD-take, getD-drop}
-use Rattle.theory.specs.Gate.{ones as total, gateBy, gate}
-use Rattle.graph.specs.Columns.{at, bit}
-use Rattle.gates.specs.inner.Gates.{part, AllBits, wordFrom, worked, Narrow, Reckons}
-use Rattle.gates.proofs.Spelt.{Spelt}
+use Rattle.theory.specs.Gate.{ones as total}
+use Rattle.graph.specs.Columns.{at}
+use Rattle.gates.specs.inner.Gates.{part, AllBits, wordFrom, Narrow}
 
 -- ── Parts of a list ─────────────────────────────────────────────────────────────────────────
 
@@ -55,9 +54,17 @@ word-more seed word x n h l = rw (pow-suc 2 n, ← mul-assoc (suc seed) (2 ^ n) 
 pub word-wider : (seed word m n : ℕ) → word < suc seed * 2 ^ m → m ≤ n → word < suc seed * 2 ^ n
 word-wider seed word m n h l = omega (arith, mul-le-mul-left (suc seed) (pow-mono {i = m} {j = n} l))
 
+pub word-below : (w : ℕ) (l : List ℕ) → AllBits l → wordFrom w l < suc w * 2 ^ length l
+unfolding wordFrom
+word-below w [] b = omega arith
+word-below w (x ∷ l) b =
+    let k : suc (w * 2 + x) ≤ suc w * 2 = omega (arith, b 0) in
+    rw (pow-suc 2 (length l), mul-comm (2 ^ length l) 2, ← mul-assoc (suc w) 2 (2 ^ length l))
+    (omega (arith, word-below (w * 2 + x) l (λ i. b (suc i)), mul-le-mul-right (2 ^ length l) k))
+
 -- `gather` is asked with the seed alone, as a truth word that has nothing below it.
-pub seed-narrow : (seed n : ℕ) → Narrow (seed * 512) n → suc seed * 2 ^ n ≤ 256
-seed-narrow seed n h = subst (λ d. suc d * 2 ^ n ≤ 256) (let z : seed * 512 / 512 ≡ seed = omega arith in z) h
+pub seed-narrow : (seed n : ℕ) → Narrow (seed * 512) n → suc seed * 2 ^ n ≤ 264
+seed-narrow seed n h = subst (λ d. suc d * 2 ^ n ≤ 264) (let z : seed * 512 / 512 ≡ seed = omega arith in z) h
 
 ones-bit : (x : ℕ) → x ≤ 1 → ones x ≡ x
 unfolding ones lib.Count.onesIn
@@ -74,20 +81,3 @@ ones-from w (x ∷ l) b = omega (arith, ones-from (w * 2 + x) l (λ i. b (suc i)
 pub ones-few : (l : List ℕ) → AllBits l → total l ≤ length l
 ones-few [] b = omega arith
 ones-few (x ∷ l) b = omega (arith, b 0, ones-few l (λ i. b (suc i)))
-
--- ── A truth word works ──────────────────────────────────────────────────────────────────────
-
--- The word is below 512, so that the seed is 0 and the gathered word has as many ones as there are among the inputs; the bit at that number is the gate's value.
-module _ (kind n truth : ℕ) (few : n ≤ 8) (s : Spelt (gateBy kind n) (n + 1) truth) where
-  no-seed : truth / 512 ≡ 0
-  no-seed = let p : 2 ^ (n + 1) ≤ 2 ^ 9 = pow-mono {i = n + 1} {j = 9} (omega arith) in omega (arith, s .short)
-
-  gives : (l : List ℕ) → length l ≡ n → AllBits l → worked truth l ≡ gate kind l
-  unfolding ones
-  gives l e b =
-      let c : ones (wordFrom 0 l) ≡ total l = omega (arith, ones-from 0 l b) in
-      ap (λ w. bit truth (ones (wordFrom w l))) no-seed ∙ ap (bit truth) c
-      ∙ s .spells (total l) (omega (arith, ones-few l b)) ∙ ap (λ m. gateBy kind m (total l)) (sym e)
-
-  pub works : Reckons kind n truth
-  works = record { gives = gives; narrow = let p : 2 ^ n ≤ 2 ^ 8 = pow-mono {i = n} {j = 8} few in subst (λ d. suc d * 2 ^ n ≤ 256) (sym no-seed) (omega arith) }

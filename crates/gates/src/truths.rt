@@ -1,12 +1,12 @@
 // A gate's truth word: bits 0 to 8 are its values, one for each number of ones among its inputs; from bit 9 up stands the seed that its inputs are
-// gathered behind, which picks a part of the index table: 0, where the number of ones decides.
-// Required of `put_truths`: gate kinds of document 01 with at most 8 inputs, which rule 5 makes sure of.
+// gathered behind, which picks a part of the index table: 0, where the number of ones decides. A selector has a value for each row of inputs, and the seed 32.
+// Required of `put_truths`: known gate kinds with at most 8 inputs, a selector with 3, which rule 5 makes sure of.
 ghost use mathlib.Core.Path.{_≡_};
 ghost use Prim.Native.Nat.{ℕ, suc, _+_, _-_, _<_, _≤_, min};
 ghost use lib.ListN.{length};
 ghost use Rattle.theory.specs.Gate.{gateBy};
 ghost use Rattle.graph.specs.Columns.{at};
-ghost use Rattle.gates.specs.inner.Gates.{Reckons, Table};
+ghost use Rattle.gates.specs.inner.Gates.{picked, Reckons, Table};
 
 // 1 where any input is 1.
 fn any(k: u32) -> u32
@@ -46,8 +46,8 @@ fn gate_by(kind: u8, n: u32, k: u32) -> u32
     }
 }
 
-// The truth word of a gate with n inputs: bit k is the value when k of them are 1.
-fn truth_of(kind: u8, n: u32) -> u16
+// The truth word of a gate with n inputs whose number of ones decides: bit k is the value when k of them are 1.
+fn counted(kind: u8, n: u32) -> u16
     requires { ⌜ (kind < 10) × (n ≤ 8) ⌝ }
     ensures { λ r. ⌜ Reckons kind n r ⌝ }
 {
@@ -60,10 +60,26 @@ fn truth_of(kind: u8, n: u32) -> u16
     word as u16
 }
 
+// Select, first, second in one word: bits 2 and 3 are select 0 with the first 1, bits 5 and 7 are select 1 with the second 1. Above them stands the seed 32.
+const SELECTOR: u16 = 16384 + 172;
+
+// The truth word of a gate with n inputs.
+fn truth_of(kind: u8, n: u32) -> u16
+    requires { ⌜ (kind < 11) × (n ≤ 8) × (kind ≡ 10 → n ≡ 3) ⌝ }
+    ensures { λ r. ⌜ Reckons kind n r ⌝ }
+{
+    if kind == 10 {
+        SELECTOR
+    } else {
+        counted(kind, n)
+    }
+}
+
 // The truth words of a row of gates: gate i has `first[i + 1] - first[i]` inputs.
 pub fn put_truths<'a>(kind: &'a [u8], first: &'a [u16], gates: usize, truth: &mut [u16])
     requires { ⌜ (gates ≤ length (now kind)) × (gates < length (now first)) × (gates ≤ length (now truth)) ⌝ }
-    requires { ⌜ ((i : ℕ) → i < gates → (at (now kind) i < 10) × (at (now first) i ≤ at (now first) (suc i)) × (at (now first) (suc i) ≤ at (now first) i + 8)) ⌝ }
+    requires { ⌜ ((i : ℕ) → i < gates → (at (now kind) i < 11) × (at (now first) i ≤ at (now first) (suc i)) × (at (now first) (suc i) ≤ at (now first) i + 8)
+        × (at (now kind) i ≡ 10 → at (now first) (suc i) ≡ at (now first) i + 3)) ⌝ }
     ensures { λ _. ⌜ ((i : ℕ) → i < gates → Reckons (at (now (kind .entry)) i) (at (now (first .entry)) (suc i) - at (now (first .entry)) i) (at (now (truth .exit)) i)) ⌝ }
 {
     let mut i = 0;
@@ -73,14 +89,25 @@ pub fn put_truths<'a>(kind: &'a [u8], first: &'a [u16], gates: usize, truth: &mu
     }
 }
 
-// Which bit of a truth word a gathered word asks for: the number of its ones.
-pub fn index_table() -> [u8; 256]
+// Which bit of a truth word a gathered word asks for: the number of its ones; behind the seed 32 the three inputs themselves.
+fn pick(word: u32) -> u8
+    ensures { λ r. ⌜ r ≡ picked word ⌝ }
+{
+    if word < 256 {
+        u32::count_ones(word) as u8
+    } else {
+        (word % 8) as u8
+    }
+}
+
+// That bit for each gathered word.
+pub fn index_table() -> [u8; 264]
     ensures { λ r. ⌜ Table r ⌝ }
 {
-    let mut table = [0u8; 256];
+    let mut table = [0u8; 264];
     let mut w = 0;
-    while w < 256 {
-        table[w] = u32::count_ones(w as u32) as u8;
+    while w < 264 {
+        table[w] = pick(w as u32);
         w += 1;
     }
     table

@@ -27,13 +27,13 @@ head-fits p d n e h =
     let f = both (within 1 1024 e) _ (c .1) in
     (within-true 1 65535 p (a .0) .1, within-true 50 250 d (b .0) .1, within-true 2 512 n (c .0) .1, within-true 1 1024 e (f .0) .1)
 
-pub node-fits : (k d : ℕ) → nodeFits k d ≡ true → (k ≤ 9) × (d ≤ 255)
+pub node-fits : (k d : ℕ) → nodeFits k d ≡ true → (k ≤ 10) × (d ≤ 255)
 unfolding nodeFits ruleOf
 node-fits k d h =
-    let a = both (leb k 9) _ h in
+    let a = both (leb k 10) _ h in
     let b = both (within (ruleOf k .low) (ruleOf k .high) d) _ (a .1) in
     let c = within-true (ruleOf k .low) (ruleOf k .high) d (b .0) .1 in
-    (leb-true k 9 (a .0), go (ltb k 2) c)
+    (leb-true k 10 (a .0), go (ltb k 2) c)
   where
     go : (t : Bool) → d ≤ cond t 0 255 → d ≤ 255
     go true l = omega arith

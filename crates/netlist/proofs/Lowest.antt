@@ -1,8 +1,8 @@
 -- The rules of the whole, as code asks them: what a test says of one node, and what a search has found.
---   kind-low, count-low a gate kind is at most 9; no edge has more than 32 registers
+--   kind-low, count-low a gate kind is at most 10; no edge has more than 32 registers
 --   laid                a record whose lines are right, in columns
 --   fan-test            the test of rule 5 says whether a node keeps it
---   fan-low             by rule 5 no node is entered by more than 8 edges
+--   fan-low, fan-three  by rule 5 no node is entered by more than 8 edges, and a selector is by three
 --   joined-yes, unfed, unused    the tests of rule 7
 --   told-yes, told-no   what an answer says
 --   sought-lowest, sought-none    a search that stops at the first node that breaks the rule, or finds none
@@ -30,7 +30,7 @@ use Rattle.netlist.proofs.Fits.{clash, within-true, node-fits, edge-fit
 use Rattle.netlist.proofs.Run.{fit-rows, fit-wired}
 use Rattle.netlist.proofs.Judged.{all-none}
 
-pub kind-low : (net : Netlist) → Fit net → (v : ℕ) → v < net .nodes → at (net .kind) v < 10
+pub kind-low : (net : Netlist) → Fit net → (v : ℕ) → v < net .nodes → at (net .kind) v < 11
 kind-low net f v h = omega (arith, node-fits (at (net .kind) v) (at (net .delay) v) (f .node v h) .0)
 
 pub count-low : (net : Netlist) → Fit net → (e : ℕ) → e < net .edges → at (net .count) e ≤ 32
@@ -67,12 +67,19 @@ fan-test G v x false e t = λ k.
 
 pub fan-low : (net : Netlist) → FanInsFit net → (v : ℕ) → v < net .nodes → fan-in (graphOf net) v ≤ 8
 unfolding ruleOf
-fan-low net fan v h = go (ltb (at (net .kind) v) 1) (ltb (at (net .kind) v) 4) (fan v h .1)
+fan-low net fan v h = go (ltb (at (net .kind) v) 1) (ltb (at (net .kind) v) 4) (ltb (at (net .kind) v) 10) (fan v h .1)
   where
-    go : (a b : Bool) → fan-in (graphOf net) v ≤ cond a 0 (cond b 1 8) → fan-in (graphOf net) v ≤ 8
-    go true b l = omega arith
-    go false true l = omega arith
-    go false false l = l
+    go : (a b c : Bool) → fan-in (graphOf net) v ≤ cond a 0 (cond b 1 (cond c 8 3)) → fan-in (graphOf net) v ≤ 8
+    go true b c l = omega arith
+    go false true c l = omega arith
+    go false false true l = l
+    go false false false l = omega arith
+
+pub fan-three : (net : Netlist) → FanInsFit net → (v : ℕ) → v < net .nodes → at (net .kind) v ≡ 10 → fan-in (graphOf net) v ≡ 3
+unfolding ruleOf
+fan-three net fan v h e =
+    let three = subst (λ k. (ruleOf k .fewest ≤ fan-in (graphOf net) v) × (fan-in (graphOf net) v ≤ ruleOf k .most)) e (fan v h) in
+    omega (arith, three)
 
 -- ── Rule 7 ──────────────────────────────────────────────────────────────────────────────────
 

@@ -9,7 +9,7 @@ use mathlib.Core.List.{List, [], _∷_, _++_}
 use Prim.Native.Nat.{ℕ, _<_}
 use Prim.Native.String.{String}
 use lib.ListN.{length, getD, take}
-use Rattle.retime.specs.Card.{printed, Result, back, refuses, runs, ClaimOf, Card, A, B, C, D, E, F, G, H, I, J}
+use Rattle.retime.specs.Card.{printed, Result, back, refuses, runs, ClaimOf, Card, A, B, C, D, E, F, G, H, I, J, S}
 use Rattle.printing.specs.Listed.{Prints}
 
 abbrev pub SomePrint : Type 0
@@ -49,6 +49,7 @@ pages =
     ∷ record { card = H; ends = [] }
     ∷ record { card = I; ends = "0400000000" ∷ "040001FFF0" ∷ "0400020000" ∷ [] }
     ∷ record { card = J; ends = "0F09030001" ∷ [] }
+    ∷ record { card = S; ends = "0400000000" ∷ "0400010000" ∷ "0400020000" ∷ "0400030000" ∷ "0400040000" ∷ "0400050000" ∷ "0400060001" ∷ "0400070000" ∷ [] }
     ∷ []
 
 abbrev pub PagesHold : Type 0

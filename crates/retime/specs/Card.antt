@@ -1,4 +1,4 @@
--- Bench cards A to J of document 01, as texts: what retiming leaves of them, and what card H runs to.
+-- Bench cards A to J of document 01, and card S with a selector, as texts: what retiming leaves of them, and what card H runs to.
 --   printed             the bytes of lines as they are printed
 --   Card, Result        a text, and what is to come of it
 --   Claim               that it does come of it, by the definitions, in all buffers that are long enough
@@ -115,8 +115,17 @@ abbrev pub J : Card
 J = cardOf ("0100056400030002" ∷ "020000" ∷ "020201" ∷ "020100" ∷ [])
     ("03000000011400000000" ∷ "03000100021400000000" ∷ []) (refuses (atEdge 9 1))
 
+-- Three inputs, each with a buffer, into a selector, register 1, output; period 1: selector lag 1, chosen 0, 1, 0.
+abbrev pub S : Card
+S = cardBack ("0100016400080007" ∷ "020000" ∷ "020000" ∷ "020000" ∷ "020201" ∷ "020201" ∷ "020201" ∷ "020A01" ∷ "020100" ∷ [])
+    ("03000000030000000000" ∷ "03000100040000000000" ∷ "03000200050000000000"
+    ∷ "03000300060000000000" ∷ "03000400060000000000" ∷ "03000500060000000000" ∷ "03000600070100000001" ∷ [])
+    ("03000000030000000000" ∷ "03000100040000000000" ∷ "03000200050000000000"
+    ∷ "03000300060100000000" ∷ "03000400060100000001" ∷ "03000500060100000000" ∷ "03000600070000000000" ∷ [])
+    (pos 0 ∷ pos 0 ∷ pos 0 ∷ pos 0 ∷ pos 0 ∷ pos 0 ∷ pos 1 ∷ pos 0 ∷ []) 3
+
 abbrev pub cards : List Card
-cards = A ∷ B ∷ C ∷ D ∷ E ∷ F ∷ G ∷ H ∷ I ∷ J ∷ []
+cards = A ∷ B ∷ C ∷ D ∷ E ∷ F ∷ G ∷ H ∷ I ∷ J ∷ S ∷ []
 
 -- Every card holds.
 abbrev pub CardsHold : Type 0

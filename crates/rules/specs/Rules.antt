@@ -11,11 +11,12 @@ use Rattle.frame.specs.Frame.{within}
 use Rattle.rules.specs.declared.Rule.{Rule}
 
 -- "Gate kinds, with in-edges: 00 input, none; 01 output, one; 02 buffer and 03 inverter, one; 04 AND, 05 OR, 06 XOR, 07 NAND, 08 NOR, 09 XNOR, each two to eight."
+-- "a three-input selector, kind 0A": select, first, second.
 -- "Inputs and outputs have delay 0, gates 1 to 255."
 unfoldable pub ruleOf : ℕ → Rule
 ruleOf k = record {
-  fewest = cond (ltb k 1) 0 (cond (ltb k 4) 1 2);
-  most = cond (ltb k 1) 0 (cond (ltb k 4) 1 8);
+  fewest = cond (ltb k 1) 0 (cond (ltb k 4) 1 (cond (ltb k 10) 2 3));
+  most = cond (ltb k 1) 0 (cond (ltb k 4) 1 (cond (ltb k 10) 8 3));
   low = cond (ltb k 2) 0 1;
   high = cond (ltb k 2) 0 255;
 }
@@ -29,9 +30,9 @@ every (b ∷ bs) = cond b (every bs) false
 unfoldable pub headFits : ℕ → ℕ → ℕ → ℕ → Bool
 headFits period derate n e = every (within 1 65535 period ∷ within 50 250 derate ∷ within 2 512 n ∷ within 1 1024 e ∷ [])
 
--- "gate kind above 09, or a wrong delay" is 3.
+-- "3 now begins above kind 0A"; or a wrong delay.
 unfoldable pub nodeFits : ℕ → ℕ → Bool
-nodeFits kind delay = every (leb kind 9 ∷ within (ruleOf kind .low) (ruleOf kind .high) delay ∷ [])
+nodeFits kind delay = every (leb kind 10 ∷ within (ruleOf kind .low) (ruleOf kind .high) delay ∷ [])
 
 -- "register count 0 to 32 (1), start values (4). … Bits at or above the count are 0." "No edge enters an input or leaves an output."
 -- "an edge rule broken (node number, count, bits, pin)" is 4.

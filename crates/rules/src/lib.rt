@@ -15,7 +15,8 @@ pub struct Rule {
 }
 
 // "Gate kinds, with in-edges: 00 input, none; 01 output, one; 02 buffer and 03 inverter, one; 04 AND .. 09 XNOR, each two to eight."
-const RULES: [Rule; 10] = [
+// "a three-input selector, kind 0A."
+const RULES: [Rule; 11] = [
     Rule {
         fewest: 0,
         most: 0,
@@ -76,14 +77,20 @@ const RULES: [Rule; 10] = [
         low: 1,
         high: 255,
     },
+    Rule {
+        fewest: 3,
+        most: 3,
+        low: 1,
+        high: 255,
+    },
 ];
 
 // The table's row; past the last kind, the last row.
 fn rule_of(kind: u8) -> Rule
     ensures { λ r. ⌜ r ≡ ruleOf kind ⌝ }
 {
-    if 9 < kind {
-        return RULES[9];
+    if 10 < kind {
+        return RULES[10];
     }
     let i = kind as usize;
     RULES[i]
@@ -123,7 +130,7 @@ pub fn head_fits(period: u16, derate: u8, nodes: u16, edges: u16) -> bool
 pub fn node_fits(kind: u8, delay: u8) -> bool
     ensures { λ r. ⌜ r ≡ nodeFits kind delay ⌝ }
 {
-    if 9 < kind {
+    if kind > 10 {
         return false;
     }
     let rule = rule_of(kind);

@@ -32,7 +32,7 @@ pub record Rows (p : Plan) : Type 0 where
   pub first : length (p .first) ≡ 513
   pub sees : length (p .sees) ≡ 1024
   pub truth : length (p .truth) ≡ 512
-  pub index : length (p .index) ≡ 256
+  pub index : length (p .index) ≡ 264
 
 module _ (net : Netlist) (p : Plan) (plan : Planned net p) (ok : Steppable net) where
   -- ── A plan can be evaluated ───────────────────────────────────────────────────────────────

@@ -17,12 +17,13 @@ use Rattle.netlist.specs.Net.{graphOf}
 use Rattle.netlist.specs.Read.{FanInsFit}
 use Rattle.netlist.specs.Theorems.{Fit}
 use Rattle.netlist.proofs.Run.{fit-wired}
-use Rattle.netlist.proofs.Lowest.{fan-low}
+use Rattle.netlist.proofs.Lowest.{fan-low, fan-three}
 
 pub record Entering (net : Netlist) (ins first : List ℕ) : Type 0 where
   pub rising : (v : ℕ) → v < net .nodes → at first v ≤ at first (suc v)
   pub within : (v : ℕ) → v < net .nodes → at first (suc v) ≤ net .edges
   pub few : (v : ℕ) → v < net .nodes → at first (suc v) ≤ at first v + 8
+  pub three : (v : ℕ) → v < net .nodes → at (net .kind) v ≡ 10 → at first (suc v) ≡ at first v + 3
   pub edge : (k : ℕ) → k < net .edges → at ins k < net .edges
   pub its : (f : ℕ → ℕ) (sees : List ℕ) → net .edges ≤ length sees → ((k : ℕ) → k < net .edges → at sees k ≡ f (at ins k))
       → (v : ℕ) → v < net .nodes → part sees (at first v) (at first (suc v)) ≡ gather (at (net .to)) f v (net .edges)
@@ -46,6 +47,7 @@ module _ (net : Netlist) (fit : Fit net) (fans : FanInsFit net) {old ins first :
     rising = rising;
     within = within;
     few = λ v h. omega (arith, count v h, fan-low net fans v h, rising v h);
+    three = λ v h e. omega (arith, count v h, fan-three net fans v h e, rising v h);
     edge = by-node .edge;
     its = λ f sees rows shows v h.
         let n = count v h in

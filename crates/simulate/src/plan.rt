@@ -31,7 +31,7 @@ pub struct Plan {
     pub first: [u16; NODES + 1],
     pub sees: [u16; EDGES],
     pub truth: [u16; NODES],
-    pub index: [u8; 256],
+    pub index: [u8; 264],
 }
 
 // The nodes of an order that are no inputs, in the same order. How many.

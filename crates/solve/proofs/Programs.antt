@@ -100,6 +100,7 @@ module _ {cells k : ℕ} {P Q : Program} {id code levels : List ℕ} (f : RightP
     gates = λ q h. omega (arith, s .same-kind q h, f .gates (at code q) (cell q h));
     rising = λ q h. omega (arith, s .counts q h);
     few-ins = λ q h. omega (arith, s .counts q h, f .few-ins (at code q) (cell q h));
+    selectors = λ q h e. omega (arith, s .counts q h, f .selectors (at code q) (cell q h) (sym (s .same-kind q h) ∙ e));
     in-rows = new-rows;
     earlier = new-earlier;
   }

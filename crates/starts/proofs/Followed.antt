@@ -37,7 +37,7 @@ pub record Ready (net : Netlist) (lab ins first truth index : List ℕ) : Type 0
   pub steppable : Steppable net
   pub labelled : Labelled net lab
   pub net-rows : (length (net .from) ≡ 1024) × (length (net .count) ≡ 1024) × (length (net .start) ≡ 1024) × (length (net .to) ≡ 1024)
-  pub rows : (length ins ≡ 1024) × (length first ≡ 513) × (length truth ≡ 512) × (length index ≡ 256)
+  pub rows : (length ins ≡ 1024) × (length first ≡ 513) × (length truth ≡ 512) × (length index ≡ 264)
   pub entering : Entering net ins first
   pub truths : (v : ℕ) → v < net .nodes → Reckons (at (net .kind) v) (at first (suc v) - at first v) (at truth v)
   pub table : Table index

@@ -70,7 +70,7 @@ inputs-like {truth} {n} {k} {own} {sig} q = subst (λ x. InputRows truth own 0 x
 pub clocked-like : {truth n k place : ℕ} {own ring own′ ring′ : List ℕ} → n ≡ k → Clocked truth k place own ring own′ ring′ → Clocked truth n place own ring own′ ring′
 clocked-like {truth} {n} {k} {place} {own} {ring} {own′} {ring′} q = subst (λ x. Clocked truth x place own ring own′ ring′) (sym q)
 
-pub few-inputs : (truth lo hi : ℕ) → suc (truth / 512) * 2 ^ (hi - lo) ≤ 256 → hi ≤ lo + 8
+pub few-inputs : (truth lo hi : ℕ) → suc (truth / 512) * 2 ^ (hi - lo) ≤ 264 → hi ≤ lo + 8
 few-inputs truth lo hi h = go (decLe hi (lo + 8))
   where
     go : Dec (hi ≤ lo + 8) → hi ≤ lo + 8
@@ -103,7 +103,7 @@ module _ (truth : ℕ) (slots : List ℕ) (lo hi place : ℕ) (ring : List ℕ) 
     along-inputs h = record {
       up = omega arith;
       in-list = omega (arith, w .own-rows, few-inputs truth lo hi (rows .narrow));
-      narrow = subst (λ n. suc (truth / 512) * 2 ^ n ≤ 256) (let z : hi - lo ≡ hi - lo - 0 = omega arith in z) (rows .narrow);
+      narrow = subst (λ n. suc (truth / 512) * 2 ^ n ≤ 264) (let z : hi - lo ≡ hi - lo - 0 = omega arith in z) (rows .narrow);
       signals = λ k a b. (
         omega (arith, w .own-slots k (omega arith), w .size, turned-low j (at slots (lo + k)) (length ring) (rows .signals (lo + k) (omega arith) (omega arith) .0) h),
         w .bits (at own k),

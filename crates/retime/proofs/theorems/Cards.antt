@@ -1,4 +1,4 @@
--- Cards A to J as texts, under one theorem: each row is one test that antt computes, beside the row of the theory's table.
+-- Cards A to J and S as texts, under one theorem: each row is one test that antt computes, beside the row of the theory's table.
 --   cards-hold
 --   demand-asks         demand 3 is not empty
 use native.Mathlib.Omega.{arith}

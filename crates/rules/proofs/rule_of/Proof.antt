@@ -13,7 +13,7 @@ array-copy-out-result c = search needs
 
 returns : tie.Need-returns
 unfolding ruleOf
-returns c = let k = c .before .before .args .kind in rw (le-ltb k 1 (omega arith), le-ltb k 4 (omega arith), le-ltb k 2 (omega arith))
+returns c = let k = c .before .before .args .kind in rw (le-ltb k 1 (omega arith), le-ltb k 4 (omega arith), le-ltb k 10 (omega arith), le-ltb k 2 (omega arith))
 
 mul-result : tie.Need-mul-result
 mul-result c = search needs
@@ -23,7 +23,7 @@ array-copy-out-result-2 c = search needs
 
 returns-2 : tie.Need-returns-2
 unfolding ruleOf
-returns-2 c = table ruleOf _ 10 _ refl (c .before .before .args .kind) (omega arith)
+returns-2 c = table ruleOf _ 11 _ refl (c .before .before .args .kind) (omega arith)
 
 pub rule-of-spec : {M : Type 1} → statement M
 rule-of-spec =

@@ -51,9 +51,10 @@ pub record RightProgram (cells k : ℕ) (P : Program) : Type 0 where
   pub few-cells : cells ≤ 12288
   pub kind-rows : cells ≤ length (P .kind)
   pub first-rows : suc cells ≤ length (P .first)
-  pub gates : (i : ℕ) → i < cells → at (P .kind) i < 10
+  pub gates : (i : ℕ) → i < cells → at (P .kind) i < 11
   pub rising : (i : ℕ) → i < cells → at (P .first) i ≤ at (P .first) (suc i)
   pub few-ins : (i : ℕ) → i < cells → at (P .first) (suc i) ≤ at (P .first) i + 8
+  pub selectors : (i : ℕ) → i < cells → at (P .kind) i ≡ 10 → at (P .first) (suc i) ≡ at (P .first) i + 3
   pub in-rows : (i : ℕ) → i < cells → at (P .first) (suc i) ≤ length (P .operand)
   pub earlier : (i j : ℕ) → i < cells → at (P .first) i ≤ j → j < at (P .first) (suc i)
       → (at (P .operand) j < k) ⊎ ((32 ≤ at (P .operand) j) × (at (P .operand) j < 32 + i))

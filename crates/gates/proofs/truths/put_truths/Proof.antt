@@ -45,7 +45,7 @@ shared-slice-read-truth-of-3 c = search needs
 
 -- What was asked of the gate of this turn, with its next place as the code writes it.
 abbrev Asked : (kind first : List ℕ) → ℕ → ℕ → Type 0
-Asked kind first v w = (at kind v < 10) × (at first v ≤ at first w) × (at first w ≤ at first v + 8)
+Asked kind first v w = (at kind v < 11) × (at first v ≤ at first w) × (at first w ≤ at first v + 8) × (at kind v ≡ 10 → at first w ≡ at first v + 3)
 
 asked : (c : tie.After-shared-slice-known5 Inv-loop μ-loop) → Asked (c .before .before .before .before .before .before .before .before .args .kind .now) (c .before .before .before .before .before .before .before .before .args .first .now) (c .before .before .before .before .loop .i) (c .before .before .before .before .loop .i + 1)
 asked c =
@@ -60,7 +60,7 @@ cast-truth-of : tie.Need-cast-truth-of Inv-loop μ-loop
 cast-truth-of c = omega (arith, asked c .2)
 
 truth-of-requires : tie.Need-truth-of-requires Inv-loop μ-loop
-truth-of-requires c κs = (asked c .0, omega (arith, asked c .2))
+truth-of-requires c κs = (asked c .0, omega (arith, asked c .2), λ e. omega (arith, asked c .3 e))
 
 mul-truth : tie.Need-mul-truth Inv-loop μ-loop
 mul-truth c = search needs

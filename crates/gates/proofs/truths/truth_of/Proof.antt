@@ -1,75 +1,24 @@
--- `gates::truths::truth_of` meets its contract: the bits below k are the gate's values.
-use Prim.Native.Nat.{_+_, _-_, _*_, _^_, _%_, _≤_}
-use mathlib.Core.Path.{_≡_, subst}
-use native.Mathlib.Omega.{arith}
-use native.Mathlib.Nat.{lt-of-lt-of-le}
-use lib.Pow.{pow-mono}
+-- `gates::truths::truth_of` meets its contract: a selector has its own word.
+use mathlib.Core.Path.{refl, sym, subst₂}
+use lib.Count.{ones, onesIn}
 use borrow.Author.Needs.{needs}
-use Rattle.theory.specs.Gate.{gateBy}
-use Rattle.theory.proofs.clocks.Gate.{by-bit}
-use Rattle.gates.proofs.Spelt.{Spelt, spelt-none, spelt-more}
-use Rattle.gates.proofs.Words.{works}
+use Rattle.gates.specs.inner.Gates.{wordFrom, picked, Reckons}
+use Rattle.gates.proofs.Reckons.{selector-works}
 use Rattle.gates.proofs.truths.truth_of.Statement.{statement}
 use Rattle.gates.proofs.truths.truth_of.Tie as tie
 
-abbrev Inv-loop : tie.InvT-loop
-Inv-loop kind n word₀ k₀ word k = (k ≤ n + 1) × Spelt (gateBy kind n) k word
+counted-requires : tie.Need-counted-requires
+counted-requires c κs = search needs
 
-abbrev μ-loop : tie.MeasureT-loop
-μ-loop kind n word₀ k₀ word k = n + 1 - k
+-- The eight rows, by computing.
+returns : tie.Need-returns
+unfolding wordFrom picked ones onesIn
+returns c =
+    let e = c .if1 .taken in
+    subst₂ (λ kind n. Reckons kind n _) (sym e) (sym (c .before .pre .2 e)) (selector-works _ refl refl)
 
-loop-holds : tie.Need-loop-holds Inv-loop μ-loop
-loop-holds c = (omega arith, spelt-none _)
-
-gate-by-requires : tie.Need-gate-by-requires Inv-loop μ-loop
-gate-by-requires c κs = search needs
-
-shl-word : tie.Need-shl-word Inv-loop μ-loop
-shl-word c = search needs
-
--- The word with one more value.
-spelt : (c : tie.After-gate-by Inv-loop μ-loop) → Spelt (gateBy (c .before .before .before .args .kind) (c .before .before .before .args .n)) (c .before .before .loop .k + 1) (c .before .before .loop .word + c .gate-by .result * 2 ^ c .before .before .loop .k % 2 ^ 32)
-spelt c =
-    let a = c .before .before .before .args in
-    let l = c .before .before .loop in
-    spelt-more (gateBy (a .kind) (a .n)) (l .k) (l .word) (c .gate-by .result) (l .inv .1) (c .gate-by .ensures) (omega (arith, c .gate-by .ensures, by-bit (a .kind) (a .n) (l .k))) (omega arith)
-
-add-word : tie.Need-add-word Inv-loop μ-loop
-add-word c = record { fits = lt-of-lt-of-le (spelt c .short) (pow-mono (let z : c .before .before .loop .k + 1 ≤ 32 = omega arith in z)) }
-
-add-k : tie.Need-add-k Inv-loop μ-loop
-add-k c = search needs
-
-loop-less : tie.Need-loop-less Inv-loop μ-loop
-loop-less c = search needs
-
-loop-again : tie.Need-loop-again Inv-loop μ-loop
-loop-again c = (omega arith, spelt c)
-
--- The word when the loop ends.
-spelt-all : (c : tie.After-loop Inv-loop μ-loop) → Spelt (gateBy (c .before .before .args .kind) (c .before .before .args .n)) (c .before .before .args .n + 1) (c .before .loop .word)
-spelt-all c =
-    let a = c .before .before .args in
-    subst (λ k. Spelt (gateBy (a .kind) (a .n)) k (c .before .loop .word)) (let z : c .before .loop .k ≡ a .n + 1 = omega arith in z) (c .before .loop .inv .1)
-
-cast-result : tie.Need-cast-result Inv-loop μ-loop
-cast-result c = record { fits = lt-of-lt-of-le (spelt-all c .short) (pow-mono (let z : c .before .before .args .n + 1 ≤ 16 = omega arith in z)) }
-
-returns : tie.Need-returns Inv-loop μ-loop
-returns c = let a = c .before .before .args in works (a .kind) (a .n) (c .before .loop .word) (omega arith) (spelt-all c)
+returns-2 : tie.Need-returns-2
+returns-2 c = search needs
 
 pub truth-of-spec : {M : Type 1} → statement M
-truth-of-spec =
-    tie.close
-    (tie.spec
-    Inv-loop
-    μ-loop
-    loop-holds
-    gate-by-requires
-    shl-word
-    add-word
-    add-k
-    loop-less
-    loop-again
-    cast-result
-    returns)
+truth-of-spec = tie.close (tie.spec counted-requires returns returns-2)

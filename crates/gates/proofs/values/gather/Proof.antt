@@ -30,7 +30,7 @@ cast-x : tie.Need-cast-x Inv-loop μ-loop
 cast-x c = omega (arith, c .shared-slice-known .given (c .before .before .loop .j))
 
 -- The word so far is no larger than it may be at the end.
-small : (c : tie.In-loop Inv-loop μ-loop) → c .before .loop .word < 256
+small : (c : tie.In-loop Inv-loop μ-loop) → c .before .loop .word < 264
 small c =
     let a = c .before .before .args in
     omega (arith, word-wider (a .seed) (c .before .loop .word) (c .before .loop .j - a .start) (a .end - a .start) (c .before .loop .inv .3) (omega arith), seed-narrow (a .seed) (a .end - a .start) (c .before .before .pre .narrow))

@@ -88,7 +88,7 @@ put-truths-requires : tie.Need-put-truths-requires Inv-loop2 μ-loop2 Inv-loop �
 put-truths-requires c κs =
     let s = c .before .before .before .before .before .before .before .before .before .before in
     let f = s .pre .0 .program in
-    ((f .kind-rows, f .first-rows, s .pre .1 .0), λ i h. (f .gates i h, f .rising i h, f .few-ins i h))
+    ((f .kind-rows, f .first-rows, s .pre .1 .0), λ i h. (f .gates i h, f .rising i h, f .few-ins i h, f .selectors i h))
 
 search-holds : tie.Need-search-holds Inv-loop2 μ-loop2 Inv-loop μ-loop Inv-search μ-search
 search-holds c = let s = c .before .before .before .before .before .before .before .before .before .before .before .before .before in (searching-start (s .pre .0) _ (s .pre .1 .1) (s .pre .1 .2), refl)

@@ -80,7 +80,7 @@ put-truths-requires c κs =
     let r = fit-rows net (s .pre .0) in
     let en = entering net (s .pre .0) (s .pre .1 .0) (r .1) (sorted .sort-by .ensures) in (
       (omega arith, omega (arith, sorted .sort-by .kept .1 .1 .1 .1 .0), r .0),
-      λ v h. (kind-low net (s .pre .0) v h, en .rising v h, en .few v h),
+      λ v h. (kind-low net (s .pre .0) v h, en .rising v h, en .few v h, en .three v h),
     )
 
 index-table-requires : tie.Need-index-table-requires

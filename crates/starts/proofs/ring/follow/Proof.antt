@@ -52,7 +52,7 @@ turn-of c = refreshed (turned c) .before .before
 net-rows : (c : tie.Start Inv-loop μ-loop) → (length (c .args .t1 .from) ≡ 1024) × (length (c .args .t1 .count) ≡ 1024) × (length (c .args .t1 .start) ≡ 1024) × (length (c .args .t1 .to) ≡ 1024)
 net-rows c = (search needs, search needs, search needs, search needs)
 
-index-rows : (c : tie.After-index-table Inv-loop μ-loop) → length (c .index-table .result) ≡ 256
+index-rows : (c : tie.After-index-table Inv-loop μ-loop) → length (c .index-table .result) ≡ 264
 index-rows c = search needs
 
 list-rows : (c : tie.After-evaluation-order Inv-loop μ-loop) → length (c .evaluation-order .result) ≡ 512
@@ -102,7 +102,7 @@ put-truths-requires c κs =
     let few = fit-rows net (s .pre .0 .fit) in
     let en = entering net (s .pre .0 .fit) (s .pre .0 .fans) (omega (arith, few .1)) (b .sort-by .ensures) in (
       (omega (arith, few .0), omega (arith, few .0, b .sort-by .kept .1 .1 .1 .1 .0), omega (arith, few .0)),
-      λ i h. (kind-low net (s .pre .0 .fit) i h, en .rising i h, en .few i h),
+      λ i h. (kind-low net (s .pre .0 .fit) i h, en .rising i h, en .few i h, en .three i h),
     )
 
 index-table-requires : tie.Need-index-table-requires Inv-loop μ-loop
