@@ -1,4 +1,4 @@
-/* The tank-netlist retimer, for programs in C: link with target/staticlib/libretimer.a, which `rt staticlib retimer` proves and writes.
+/* The tank-netlist retimer, for programs in C: link with crates/retimer/out/libretimer.a, which `rt lib` proves and writes in crates/retimer.
  *
  * Every call is proved to do what crates/retimer/specs/Calls says of it, for any text, record, vector and buffer. A call that refuses
  * gives the rule's number and its place, and leaves every lent record and buffer as it was.

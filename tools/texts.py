@@ -26,7 +26,7 @@ from reference import INPUT, OUTPUT, Netlist, Refusal, read  # noqa: E402  (the 
 
 KIND_NAMES = ("input", "output", "buffer", "inverter", "AND", "OR", "XOR", "NAND", "NOR", "XNOR", "selector")
 LONGEST_INPUT = 32768  # "a text of up to 32,768 bytes (more decides nothing)"
-PROGRAM = ROOT / "target" / "bin" / "listing"
+PROGRAM = ROOT / "crates" / "listing" / "out" / "listing"
 
 
 def netlist_of(text: bytes) -> Netlist:
@@ -56,7 +56,8 @@ def built_program() -> Path:
     """The program `listing`; proved and built on first use, which takes some minutes."""
     if not PROGRAM.is_file():
         print("listing: proving and building the program first; this takes some minutes", file=sys.stderr)
-        done = subprocess.run(["rt", "check", "listing"], cwd=ROOT, stdout=sys.stderr, check=False)
+        done = subprocess.run(["rt", "run"], cwd=ROOT / "crates" / "listing", stdin=subprocess.DEVNULL, capture_output=True, check=False)
+        sys.stderr.write(done.stderr.decode("utf-8", "replace"))
         if done.returncode != 0 or not PROGRAM.is_file():
             raise SystemExit("listing: the program could not be built")
     return PROGRAM

@@ -9,9 +9,14 @@
 //   09    the text's quote: `09`, period (2), register total (4), largest count (4), number of values to choose (4); or the line of the refusal
 //
 // All ends with the input, at a line that is no such frame, or after 65,536 jobs. A text or vectors that the input cuts short are taken as they stand.
+#![tactic(auto)]
+
 ghost use Rattle.std.specs.Prelude.{◌<◌};
 
-use libc::{STDIN_FILENO, STDOUT_FILENO};
+// File descriptors.
+const STDIN: i32 = 0;
+
+const STDOUT: i32 = 1;
 
 // The number of two bytes, high byte first.
 fn pair(high: u8, low: u8) -> usize
@@ -40,31 +45,31 @@ fn kind_of(line: &[u8]) -> u8 {
 fn print_reread(text: &[u8]) {
     let mut out = io::large_buffer();
     let n = printing::reread(text, &mut out);
-    io::write_all(STDOUT_FILENO, &out[..n]);
+    io::write_all(STDOUT, &out[..n]);
 }
 
 fn print_listing(text: &[u8]) {
     let listing = printing::listing(text);
     let bytes = listing.bytes;
-    io::write_all(STDOUT_FILENO, &bytes[..listing.len]);
+    io::write_all(STDOUT, &bytes[..listing.len]);
 }
 
 fn print_run(text: &[u8], vectors: &[u8], ran: &mut [u8]) {
     let mut out = io::large_buffer();
     let n = printing::put_run(text, vectors, ran, &mut out);
-    io::write_all(STDOUT_FILENO, &out[..n]);
+    io::write_all(STDOUT, &out[..n]);
 }
 
 fn print_quote(text: &[u8]) {
     let mut out = io::large_buffer();
     let n = printing::put_quote(text, &mut out);
-    io::write_all(STDOUT_FILENO, &out[..n]);
+    io::write_all(STDOUT, &out[..n]);
 }
 
 // A text and vectors as long as these buffers, taken from the input; what is printed of the job.
 fn take_job(kind: u8, text: &mut [u8], vectors: &mut [u8], ran: &mut [u8]) {
-    let n = io::read_full(STDIN_FILENO, text);
-    let m = io::read_full(STDIN_FILENO, vectors);
+    let n = io::read_full(STDIN, text);
+    let m = io::read_full(STDIN, vectors);
     match kind {
         7 => print_listing(&text[..n]),
         8 => print_run(&text[..n], &vectors[..m], ran),
@@ -86,7 +91,7 @@ fn job(kind: u8, n: usize, m: usize, k: usize)
 // The next frame and its job; false where there is none.
 fn next() -> bool {
     let mut line = [0u8; 15];
-    io::read_full(STDIN_FILENO, &mut line);
+    io::read_full(STDIN, &mut line);
     let kind = kind_of(&line);
     let head = frame::frame_at(&line, 0, kind, 6);
     if !head.ok {

@@ -43,7 +43,7 @@ fn wire(
 }
 
 // How many cells a program has, and how many rows its dues.
-#[derive(Drop)]
+#[derive(Clone, Copy)]
 struct Compiled {
     cells: usize,
     rows: usize,

@@ -1,4 +1,6 @@
 // The choice of start values. Internal: asks of the caller the labels of the least retiming (`Choosing`).
+#![tactic(auto)]
+
 mod cells;
 mod choosing;
 mod dues;
@@ -9,7 +11,7 @@ use graph::{EDGES, NODES};
 use moves::MOST_CHOSEN;
 
 // found: `words` has the chosen start values of each edge, bit t for clock t.
-#[derive(Drop)]
+#[derive(Clone, Copy)]
 pub struct Choice {
     pub found: bool,
     pub words: [u32; EDGES],

@@ -1,11 +1,11 @@
 -- Frames. Document 01: "One frame a line: hexadecimal digits 0-9 A-F, two a byte, no blanks, ended by one line feed. Numbers of several bytes have the high byte first."
---   digitOf c           the value of the digit c; 16 where c is none
+--   digitOf c            the value of the digit c; 16 where c is none
 --   line_at n l          the n bytes of the line at the front of l, and what follows the line
 --   frame_at k n l       the same of a line of kind k with n more bytes: those n
 --   number_at i n bs     the number of n bytes, from the i-th
 --   hexOf bs, line_of bs the digits of the bytes bs; the line of them
 --   bytes_of n x         the number x as n bytes
---   placed l at vs      l with vs from place `at` on, where there is room; else l
+--   placed l at vs       l with vs from place `at` on, where there is room; else l
 use Rattle.std.specs.Prelude.{Bool, false, cond, List, [], ◌∷◌, ◌++◌, ℕ, zero, suc, ◌+◌, ◌-◌, ◌*◌, ◌^◌, ◌/◌, ◌%◌, eqb, ltb, leb, length, take, drop}
 use Rattle.std.proofs.lemmas.List.Edits.{sets}
 

@@ -1,12 +1,14 @@
 // Frames: lines of hex digits, read at a cursor into bytes and written from bytes. Definitions: specs/Frame.
 // A cursor is an offset into the text; no offset is computed in closed form.
+#![tactic(auto)]
+
 ghost use Rattle.std.specs.Prelude.{◌≡◌, ◌∷◌, [], ◌+◌, ◌*◌, ◌<◌, ◌≤◌, length, take, drop};
 ghost use Rattle.std.proofs.lemmas.List.Edits.{sets};
 ghost use Rattle.frame.specs.Frame.{line_at, bad, charOf, hexOf, line_of, placed};
 ghost use Rattle.frame.specs.inner.Decoded.{Digits, pair_of, decoded, framed};
 
 // A line's bytes after its kind, or `ok` false. Bytes past the line's are 0.
-#[derive(Drop)]
+#[derive(Clone, Copy)]
 pub struct Frame {
     pub ok: bool,
     pub bytes: [u8; 16],

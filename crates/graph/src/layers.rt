@@ -10,7 +10,7 @@ use crate::sort::sort_by;
 use crate::{EDGES, NODES};
 
 // After so many passes: the marked nodes at the front of `queue`, those that the last pass marked from place `lo` up to `hi`.
-#[derive(Drop)]
+#[derive(Clone, Copy)]
 pub struct Layer {
     pub passes: usize,
     pub lo: usize,

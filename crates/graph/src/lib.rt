@@ -1,5 +1,7 @@
 // Algorithms over a graph in columns that the caller lends: fan-in, reach, loops, evaluation order.
 // Internal: its functions ask of the caller (`requires`) what the netlist crate has checked.
+#![tactic(auto)]
+
 mod along;
 mod layers;
 mod order;

@@ -13,7 +13,7 @@ use crate::sort::sort_by;
 use crate::{EDGES, NODES};
 
 // The nodes in evaluation order, as far as there is one: so many found a place.
-#[derive(Drop)]
+#[derive(Clone, Copy)]
 pub struct Order {
     pub placed: usize,
     pub order: [u16; NODES],

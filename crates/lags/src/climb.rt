@@ -29,7 +29,7 @@ const TOP: u64 = 34359738368;
 const SWEEPS: u32 = 64;
 
 // What a sweep comes to. Late: a pin is asked for a label above 16,384. High: a gate for one above 32,767.
-#[derive(Drop)]
+#[derive(Clone, Copy)]
 pub enum Swept {
     Still,
     Moved,
@@ -38,7 +38,7 @@ pub enum Swept {
 }
 
 // Where `settled`, the labels are the answer. Else the sweeps came to no end.
-#[derive(Drop)]
+#[derive(Clone, Copy)]
 pub struct Climbed {
     pub settled: bool,
     pub labels: Labels,

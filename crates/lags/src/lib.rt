@@ -1,4 +1,6 @@
 // The lags of the least retiming, for any period. Internal: it asks of the caller (`requires`) what reading has made sure of.
+#![tactic(auto)]
+
 mod climb;
 mod label;
 mod order;
@@ -18,7 +20,7 @@ use rounds::by_rounds;
 use times::working_delays;
 
 // `found`: a legal retiming meets the period, and these are the least one's.
-#[derive(Drop)]
+#[derive(Clone, Copy)]
 pub struct Labels {
     pub found: bool,
     pub lab: [u32; NODES],
@@ -26,7 +28,7 @@ pub struct Labels {
 
 // What the search goes by and no period plays a part in: the nodes in an order that can be evaluated, the edges by the node that they enter
 // (`first` has the place where each node's begin), and the working delays.
-#[derive(Drop)]
+#[derive(Clone, Copy)]
 pub struct Ground {
     pub order: [u16; NODES],
     pub ins: [u16; EDGES],

@@ -1,6 +1,6 @@
 -- The moved netlist: "Moved by lags and a choice, a netlist keeps its head, its nodes and the ends of its edges, and each edge gets its new count and new start values."
---   column, word_of      a column of 1,024 rows; start values as a word
---   with_regs            the netlist with other registers
+--   column, word_of     a column of 1,024 rows; start values as a word
+--   with_regs           the netlist with other registers
 --   movedNet            the netlist moved by lags and a choice
 use Rattle.std.specs.Prelude.{List, [], ◌∷◌, ◌++◌, ℕ, ◌*◌, ◌-◌, ◌^◌, ℤ}
 use Rattle.theory.specs.Clock.{Regs}

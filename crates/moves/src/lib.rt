@@ -1,4 +1,6 @@
 // The counts of a moved netlist, and how many of its start values are chosen. Internal: asks of the caller the labels of a legal retiming.
+#![tactic(auto)]
+
 mod bits;
 mod counts;
 

@@ -1,7 +1,7 @@
 -- What the lines of a text come to: each line that is read puts a row into the record, and the text so far is the text of the record so far.
 --   Account t x         why the lines of the text t come to x
 --   nodeRow, edgeRow    a row of a record, over its columns
---   node_of, edge_of      the line of a row
+--   node_of, edge_of    the line of a row
 --   node-.., edge-..    what one more row changes, and what it keeps
 --   turn                one line
 --   account             every text has an account

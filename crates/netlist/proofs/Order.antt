@@ -26,30 +26,30 @@ Decided F = Some F ⊎ ((s : Said) → ¬ F s)
 -- ── Rows ────────────────────────────────────────────────────────────────────────────────────
 
 module _ {F G : Said → Type 0} where
-  pub meet : {G' : Said → Type 0} {s x : Said} → One F → (G s → G' x → s ≡ x) → (F or_else G) s → (F or_else G') x → s ≡ x
+  pub meet : {G' : Said → Type 0} {s x : Said} → One F → (G s → G' x → s ≡ x) → (F orElse G) s → (F orElse G') x → s ≡ x
   meet {s = s} {x} f g (here a) (here b) = f s x a b
   meet {s = s} {x} f g (here a) (past n b) = absurd (n s a)
   meet {s = s} {x} f g (past n a) (here b) = absurd (n x b)
   meet f g (past n a) (past m b) = g a b
 
-  pub else-one : One F → One G → One (F or_else G)
+  pub else-one : One F → One G → One (F orElse G)
   else-one f g s x = meet f (g s x)
 
-  pub else-some : Decided F → Some G → Some (F or_else G)
+  pub else-some : Decided F → Some G → Some (F orElse G)
   else-some (inl (s, a)) g = (s, here a)
   else-some (inr n) (s, b) = (s, past n b)
 
   -- What a row says where its first fact holds, and where it does not.
-  pub decides : {s x : Said} → One F → F x → (F or_else G) s → s ≡ x
+  pub decides : {s x : Said} → One F → F x → (F orElse G) s → s ≡ x
   decides {s} {x} f a (here b) = f s x b a
   decides {s} {x} f a (past n b) = absurd (n x a)
 
-  pub later : (s : Said) → ((x : Said) → ¬ F x) → (F or_else G) s → G s
+  pub later : (s : Said) → ((x : Said) → ¬ F x) → (F orElse G) s → G s
   later s n (here a) = absurd (n s a)
   later s n (past m b) = b
 
   -- A row says no other thing where each of its facts is replaced by one that holds when it does.
-  pub else-map : {F' G' : Said → Type 0} {s : Said} → ((x : Said) → F x → F' x) → ((x : Said) → F' x → F x) → (G s → G' s) → (F or_else G) s → (F' or_else G') s
+  pub else-map : {F' G' : Said → Type 0} {s : Said} → ((x : Said) → F x → F' x) → ((x : Said) → F' x → F x) → (G s → G' s) → (F orElse G) s → (F' orElse G') s
   else-map {s = s} to from g (here a) = here (to s a)
   else-map to from g (past n a) = past (λ x h. n x (from x h)) (g a)
 
@@ -87,11 +87,11 @@ stops? (refused q k p) = inl (refused q k p, refl)
 pub no_stop : {c : Said} (n : ℕ) → c ≡ value n → (x : Said) → ¬ Stops c x
 no_stop n e x h = subst (λ c. Stops c x) e h
 
-pub stopped : {G : Said → Type 0} {c s : Said} {q k p : ℕ} → c ≡ refused q k p → (Stops c or_else G) s → s ≡ refused q k p
-stopped {G} {c} {s} {q} {k} {p} e row = decides (stops-one (refused q k p)) refl (subst (λ c. (Stops c or_else G) s) e row)
+pub stopped : {G : Said → Type 0} {c s : Said} {q k p : ℕ} → c ≡ refused q k p → (Stops c orElse G) s → s ≡ refused q k p
+stopped {G} {c} {s} {q} {k} {p} e row = decides (stops-one (refused q k p)) refl (subst (λ c. (Stops c orElse G) s) e row)
 
 -- A row that says a number was not stopped.
-pub stops-value : {G : Said → Type 0} (c : Said) {k : ℕ} → (Stops c or_else G) (value k) → (i : ℕ) × (c ≡ value i) × G (value k)
+pub stops-value : {G : Said → Type 0} (c : Said) {k : ℕ} → (Stops c orElse G) (value k) → (i : ℕ) × (c ≡ value i) × G (value k)
 stops-value (value i) (here a) = absurd a
 stops-value (value i) (past n b) = (i, refl, b)
 stops-value (refused q k p) (here a) = clash (cc)

@@ -34,6 +34,6 @@ rewrites-done t old a net s new {n} e r w =
       said = says a;
       net = net;
       reads = r;
-      answer = subst₂ (λ x y. (Stops x or_else Needs (length y) (length old)) s) c (sym q) w.answer;
+      answer = subst₂ (λ x y. (Stops x orElse Needs (length y) (length old)) s) c (sym q) w.answer;
       buffer = w.buffer ∙ ap (λ y. holds s y old) (sym q);
     }

@@ -2,7 +2,7 @@
 --   rows-below          every row of a column, and 0 past the last one, is below the bound of its type
 --   typed-record        a record in code is one of the types in src/lib.rt
 use Prim.Native.Nat.{ℕ, zero, suc, ◌^◌, ◌<◌}
-use mathlib.Core.List.{List, [], ◌∷◌, map}
+use mathlib.Core.List.{List, [], ◌∷◌}
 use lib.ListN.{get_or}
 use lib.Pow.{pow_pos}
 use mir.Syntax.{Width, w8, w16, w32}
@@ -15,8 +15,8 @@ use Rattle.netlist.specs.declared.Netlist.{Netlist}
 use Rattle.netlist.specs.Theorems.{Typed}
 use Rattle.netlist.specs.contracts.Netlist as N
 
--- Code has a column as the list of what its rows stand for, each of which is its number: hence the `map`.
-rows-below : (w : Width) (xs : List ℕ) (us : List Val) → shadow (each ℕ (UInt w).own_val (map (λ x. x) xs) us) → (i : ℕ) → get_or xs i 0 < 2 ^ bits w
+-- Code has a column as the list of its rows' numbers.
+rows-below : (w : Width) (xs : List ℕ) (us : List Val) → shadow (each ℕ (UInt w).own_val xs us) → (i : ℕ) → get_or xs i 0 < 2 ^ bits w
 rows-below w [] us h i = pow_pos (bits w)
 rows-below w (x ∷ xs) [] h i = absurd h
 rows-below w (x ∷ xs) (u ∷ us) h zero = h.0.1

@@ -1,7 +1,7 @@
 -- The netlist record: a row of each kind put in, and the circuit that it stands for.
 --   netWith                                   the record with these fields
---   emptyNet, with_head, withNode, withEdge    the record as reading fills it
---   graph_of, regs_of, delayOf                  the theory's graph and registers, and the working delays
+--   emptyNet, with_head, withNode, withEdge   the record as reading fills it
+--   graph_of, regs_of, delayOf                the theory's graph and registers, and the working delays
 use Rattle.std.specs.Prelude.{List, ℕ, ◌+◌, ◌*◌, ◌/◌, get_or, set, replicate}
 use Rattle.theory.specs.Graph.{Graph}
 use Rattle.theory.specs.Clock.{Regs}

@@ -1,5 +1,5 @@
 -- Reading: the rules 1 to 4 line by line, then 5, 6 and 7 of the whole.
---   lines_of             the record that the lines fill, or the first fault of a line
+--   lines_of            the record that the lines fill, or the first fault of a line
 --   FanInFits, InReach  a node keeps rule 5, rule 7
 --   All, Lowest         all nodes keep a rule; the lowest that does not
 --   FanInsFit, WrongFanIn, AllInReach, OutOfReach    all nodes of a netlist keep rule 5, rule 7; the lowest that does not
@@ -91,9 +91,9 @@ OutOfReach net v = Lowest (InReach (graph_of net)) net.nodes v
 abbrev pub Judged : Netlist → Said → Type 0
 Judged net =
     GivenAt (WrongFanIn net) (atNode 5)
-    or_else Given (LoopIn net) (whole 6)
-    or_else GivenAt (OutOfReach net) (atNode 7)
-    or_else Otherwise (value 0)
+    orElse Given (LoopIn net) (whole 6)
+    orElse GivenAt (OutOfReach net) (atNode 7)
+    orElse Otherwise (value 0)
 
 -- A refusal gives an empty record.
 abbrev pub kept : Said → Netlist → Netlist

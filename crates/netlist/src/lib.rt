@@ -1,4 +1,6 @@
 // Netlists: the record, answers, reading and writing. The promises are in specs/: Read, Write, Theorems.
+#![tactic(auto)]
+
 use graph::{EDGES, NODES};
 
 mod checking;
@@ -14,7 +16,7 @@ pub use writing::{put_text, write};
 
 // "A netlist is its head, its N nodes and its E edges; record rows past them are read by nothing, and reading makes them 0."
 #[repr(C)]
-#[derive(Drop)]
+#[derive(Clone, Copy)]
 pub struct Netlist {
     pub period: u16,
     pub derate: u8,
@@ -29,7 +31,7 @@ pub struct Netlist {
 }
 
 // "A refusal names its place: a line, a node, an edge or the whole."
-#[derive(Drop)]
+#[derive(Clone, Copy)]
 pub enum Place {
     Whole,
     Line(u16),
@@ -38,13 +40,13 @@ pub enum Place {
 }
 
 // A call's number, or a refusal's number and place. specs/Answer has the paper's number and values for each case.
-#[derive(Drop)]
+#[derive(Clone, Copy)]
 pub enum Answer {
     Done(usize),
     Refused(u8, Place),
 }
 
-#[derive(Drop)]
+#[derive(Clone, Copy)]
 pub struct Reading {
     pub answer: Answer,
     pub net: Netlist,

@@ -12,7 +12,7 @@ use graph::{EDGES, NODES};
 use rules::{edge_fits, head_fits, node_fits};
 
 // What lines have filled: the record and the cursor past them; or a refusal, and an empty record.
-#[derive(Drop)]
+#[derive(Clone, Copy)]
 pub struct Filled {
     pub answer: Answer,
     pub at: usize,
@@ -121,7 +121,7 @@ fn read_nodes(table: &[u8], text: &[u8], at0: usize, net0: Netlist) -> Filled
 }
 
 // The numbers in an edge line's bytes.
-#[derive(Drop)]
+#[derive(Clone, Copy)]
 struct EdgeRow {
     from: u16,
     to: u16,

@@ -53,7 +53,7 @@ refusal-length q (Edge e) = length-line _
 pub rereads-text : (t old new : List ℕ) (a : Answer) (n : ℕ) → a ≡ Done n → Rewrites t old (says a) new → Rereads t old n new × IsPrefixLen n new
 rereads-text t old new a n e w =
     let s = ap says e in
-    let r = all-written w.said (subst (Stops w.said or_else Needs (length t) (length old)) s w.answer) in
+    let r = all-written w.said (subst (Stops w.said orElse Needs (length t) (length old)) s w.answer) in
     let k : 0 + length t ≡ length t = omega arith in
     let b : new ≡ placed old 0 t = w.buffer ∙ rw (s, placed-room old 0 t (omega (arith, r.3)), sets-eq t old 0 (omega (arith, r.3)), k) in (
       record { said = says a; mid = new; rewrites = w; result = rw (s, le-leb (length t) (length old) r.3) r.2; buffer = rw s b },

@@ -1,4 +1,5 @@
 // What the programs print: of a text read and written again, of a run, of a text retimed, of a quote, and of a refusal. The promises are in specs/: Shown, Printed, Listed, Quoted.
+#![tactic(auto)]
 
 mod quoting;
 mod refusals;
@@ -16,7 +17,7 @@ pub use running::put_run;
 pub const ROOM: usize = 32768 + 11 * 512;
 
 // What is printed: the first `len` of these bytes.
-#[derive(Drop)]
+#[derive(Clone, Copy)]
 pub struct Printed {
     pub len: usize,
     pub bytes: [u8; ROOM],

@@ -44,8 +44,8 @@ pub record Quotes (t : List ℕ) (s : Said) (registers largest number : ℕ) : T
   pub lag : ℕ → ℤ
   -- "where 65,535 would be refused 8 so is the quote"; else "the smallest period that isn't refused 8"
   pub answer : (Stops checked
-      or_else Given (NoneMeetsIn net 65535) (whole 8)
-      or_else GivenAt (λ p. Smallest net p × LeastIn net p lag) value) s
+      orElse Given (NoneMeetsIn net 65535) (whole 8)
+      orElse GivenAt (λ p. Smallest net p × LeastIn net p lag) value) s
   -- "for the least retiming at that period the register total, the largest count on an edge and the number of values to choose"
   pub total : registers ≡ countedIf s (registersAt net lag)
   pub widest : largest ≡ countedIf s (largestAt net lag)

@@ -12,7 +12,7 @@ use netlist::Netlist;
 const LONGEST_PERIOD: u32 = 65535;
 
 // `met`: the period is met, no smaller one is, and these are the labels of the least retiming there.
-#[derive(Drop)]
+#[derive(Clone, Copy)]
 pub struct Tight {
     pub met: bool,
     pub period: u32,

@@ -1,4 +1,6 @@
 // A quote before the order: the smallest period that is not refused 8, and what the least retiming at that period comes to. The promises are in specs/: Quote, Theorems.
+#![tactic(auto)]
+
 mod counts;
 mod halving;
 
@@ -14,7 +16,7 @@ use moves::{chosen, new_counts};
 use netlist::{Answer, Netlist, Place};
 
 // answer: the period, or a refusal. The numbers are 0 where it is a refusal.
-#[derive(Drop)]
+#[derive(Clone, Copy)]
 pub struct Quoted {
     pub answer: Answer,
     pub registers: u32,

@@ -1,14 +1,19 @@
 // Reads one text of up to 32,768 bytes from standard input, and prints it read and written again, or its refusal:
 // `0F`, number (1), place kind (1: 00 whole, 01 line, 02 node, 03 edge), place (2, 0 for whole).
-use libc::{STDIN_FILENO, STDOUT_FILENO};
+#![tactic(auto)]
+
+// File descriptors.
+const STDIN: i32 = 0;
+
+const STDOUT: i32 = 1;
 
 // "a text of up to 32,768 bytes (more decides nothing)".
 const LONGEST: usize = 32768;
 
 fn main() {
     let mut text = [0u8; LONGEST];
-    let n = io::read_full(STDIN_FILENO, &mut text);
+    let n = io::read_full(STDIN, &mut text);
     let mut out = [0u8; LONGEST];
     let m = printing::reread(&text[..n], &mut out);
-    io::write_all(STDOUT_FILENO, &out[..m]);
+    io::write_all(STDOUT, &out[..m]);
 }

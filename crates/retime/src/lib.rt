@@ -1,4 +1,6 @@
 // Retiming. The promises are in specs/: Retime, Demand, Theorems, Card.
+#![tactic(auto)]
+
 ghost use Rattle.std.specs.Prelude.{◌≡◌, [], ◌∷◌, ◌++◌, ℕ, ◌≤◌, ◌<◌, length, drop};
 ghost use Rattle.std.proofs.lemmas.List.Edits.{sets};
 ghost use Rattle.graph.specs.Columns.{at};
@@ -20,7 +22,7 @@ use netlist::{Answer, Netlist, Place};
 use starts::moved;
 
 // A moved netlist, with how many start values were chosen; or a refusal.
-#[derive(Drop)]
+#[derive(Clone, Copy)]
 struct Retimed {
     answer: Answer,
     net: Netlist,

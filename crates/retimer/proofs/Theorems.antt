@@ -76,7 +76,7 @@ one-reread-call t out r r' new new' (s, w, coded) (s', w', coded') =
     let e = one-reading t w.said w'.said w.net w'.net w.reads w'.reads in
     let n = length t in
     let m = length out in
-    let f : s ≡ s' = else-one (stops-one w'.said) (needs-one n m) s s' (subst (λ c. (Stops c or_else Needs n m) s) e.0 w.answer) w'.answer in
+    let f : s ≡ s' = else-one (stops-one w'.said) (needs-one n m) s s' (subst (λ c. (Stops c orElse Needs n m) s) e.0 w.answer) w'.answer in
     (coded_alike f coded coded', w.buffer ∙ ap (λ c. holds c t out) f ∙ sym w'.buffer)
 
 figures-alike : (f g : Figures) → f.registers ≡ g.registers → f.largest ≡ g.largest → f.number ≡ g.number → f ≡ g

@@ -9,21 +9,21 @@ use netlist::{Answer, Netlist, Place};
 use simulate::Machine;
 
 // A record as it is put back, and the call's number.
-#[derive(Drop)]
+#[derive(Clone, Copy)]
 pub struct Filled {
     pub net: Netlist,
     pub code: u64,
 }
 
 // A machine as it is put back, and the call's number.
-#[derive(Drop)]
+#[derive(Clone, Copy)]
 pub struct Clocked {
     pub machine: Machine,
     pub code: u64,
 }
 
 // The figures as they are put back, and the call's number.
-#[derive(Drop)]
+#[derive(Clone, Copy)]
 pub struct Priced {
     pub figures: Figures,
     pub code: u64,

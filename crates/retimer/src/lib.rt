@@ -2,6 +2,8 @@
 //
 // A record is lent as a struct by reference, so its field types are its ranges. Each call that takes one copies it, calls the core of `coded`
 // that takes it by value, and puts back what comes of it: it decides nothing itself.
+#![tactic(auto)]
+
 ghost use Rattle.retimer.specs.Calls.{ReadCall, CheckCall, WriteCall, StepCall, RunCall, RetimeCall, RereadCall, QuoteCall};
 
 mod coded;
@@ -12,7 +14,7 @@ use simulate::Machine;
 
 // A quote's figures: the register total, the largest count on an edge, the number of values to choose.
 #[repr(C)]
-#[derive(Drop)]
+#[derive(Clone, Copy)]
 pub struct Figures {
     pub registers: u32,
     pub largest: u32,

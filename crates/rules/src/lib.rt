@@ -1,10 +1,12 @@
 // The rules of one line: numbers in range, the gate table, bits below the count. Definitions: specs/Rules.
+#![tactic(auto)]
+
 ghost use Rattle.std.specs.Prelude.{◌≡◌, ◌^◌, ltb, get_or};
 ghost use Rattle.frame.specs.Frame.{within};
 ghost use Rattle.rules.specs.Rules.{ruleOf, headFits, nodeFits, edgeFits};
 
 // What a gate kind allows: smallest and largest number of in-edges, smallest and largest delay.
-#[derive(Drop)]
+#[derive(Clone, Copy)]
 pub struct Rule {
     pub fewest: u8,
     pub most: u8,

@@ -9,7 +9,7 @@ ghost use Rattle.search.specs.inner.States.{nextAfter, ChoiceShown, evaluatorOf,
 use gates::{index_table, put_truths, value};
 
 // How far the search goes: the bits of a choice, the limit of choices, how many cells and dues there are, and where those of each level begin.
-#[derive(Drop)]
+#[derive(Clone, Copy)]
 pub struct Extent {
     pub bits: u32,
     pub limit: u32,
@@ -20,7 +20,7 @@ pub struct Extent {
 }
 
 // Where the search goes on: a choice, the first cell to evaluate, the first due to look at.
-#[derive(Drop)]
+#[derive(Clone, Copy)]
 struct Turn {
     choice: u32,
     cell: usize,

@@ -1,5 +1,7 @@
 // The search for start values: the smallest choice of bits under which a row of gates gives what is due.
 // Internal: asks of the caller a right program whose cells are ordered by level (`solve` orders them).
+#![tactic(auto)]
+
 mod choices;
 mod rows;
 
@@ -27,14 +29,14 @@ const BITS: usize = 32;
 const LEVELS: usize = 26;
 
 // found: `choice` is the smallest that gives what is due.
-#[derive(Drop)]
+#[derive(Clone, Copy)]
 pub struct Choice {
     pub found: bool,
     pub choice: u32,
 }
 
 // What is searched, by its sizes: the bits of a choice, where the cells of each level begin, and how many edges something is due of.
-#[derive(Drop)]
+#[derive(Clone, Copy)]
 struct Size {
     bits: u32,
     levels: [u16; LEVELS],

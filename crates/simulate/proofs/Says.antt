@@ -25,7 +25,7 @@ use Rattle.simulate.specs.Run.{clocks, runFits}
 
 -- An earlier refusal, 13 where the test fails, 12, or n.
 abbrev pub Row : Said → Bool → ℕ → ℕ → Said → Type 0
-Row c test n room = Stops c or_else Given (test ≡ false) (whole 13) or_else Needs n room
+Row c test n room = Stops c orElse Given (test ≡ false) (whole 13) orElse Needs n room
 
 pub row_one : (c : Said) (test : Bool) (n room : ℕ) → One (Row c test n room)
 row_one c test n room = else-one (stops-one c) (else-one (given-one (test ≡ false) (whole 13)) (needs-one n room))
@@ -43,7 +43,7 @@ row_goes e h q = past (λ x s. s) (past (row-held e) (needs-room h q))
 pub row-value : (c : Said) (test : Bool) {n room o : ℕ} → Row c test n room (value o) → (test ≡ true) × (o ≡ n) × (n ≤ room)
 row-value c test r = go test (stops-value c r).2
   where
-    go : (b : Bool) {n room o : ℕ} → (Given (b ≡ false) (whole 13) or_else Needs n room) (value o) → (b ≡ true) × (o ≡ n) × (n ≤ room)
+    go : (b : Bool) {n room o : ℕ} → (Given (b ≡ false) (whole 13) orElse Needs n room) (value o) → (b ≡ true) × (o ≡ n) × (n ≤ room)
     go b (here (f, q)) = clash (cc)
     go true (past f a) = let k = needs-value a in (refl, k.0, k.1)
     go false (past f a) = absurd (f (whole 13) (refl, refl))

@@ -33,5 +33,5 @@ pub record Runs (t vectors old : List ℕ) (s : Said) (new : List ℕ) : Type 0 
   pub net : Netlist
   pub reads : Reads t checked net
   -- "running … with 13, 12 (… running one per clock)".
-  pub answer : (Stops checked or_else Given (runFits net vectors ≡ false) (whole 13) or_else Needs (clocks net vectors * outputs net) (length old)) s
+  pub answer : (Stops checked orElse Given (runFits net vectors ≡ false) (whole 13) orElse Needs (clocks net vectors * outputs net) (length old)) s
   pub buffer : new ≡ holds s (clocksFrom net (clocks net vectors) net.start vectors) old

@@ -38,6 +38,6 @@ pub record Steps (net : Netlist) (m : Machine) (vector old : List ℕ) (s : Said
   pub same : Netlist
   pub check : Reads (text_of net) checked same
   -- "stepping with 13, 12 (stepping writes one vector of outputs …)".
-  pub answer : (Stops checked or_else Given (stepFits same m.words vector ≡ false) (whole 13) or_else Needs (outputs same) (length old)) s
+  pub answer : (Stops checked orElse Given (stepFits same m.words vector ≡ false) (whole 13) orElse Needs (outputs same) (length old)) s
   pub machine : m' ≡ machineAfter s same m vector
   pub buffer : new ≡ holds s (outputValues same m.words vector) old

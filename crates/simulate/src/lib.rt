@@ -1,4 +1,6 @@
 // Clocks: stepping a netlist record, and running a text. The promises are in specs/: Clock, Step, Run, Theorems.
+#![tactic(auto)]
+
 mod checks;
 mod clocks;
 mod plan;
@@ -13,12 +15,12 @@ pub use stepping::{step, step_in_place};
 
 // "a machine record: one 32-bit word per edge, laid out as start values; words past the E-th are neither read nor changed."
 #[repr(C)]
-#[derive(Drop)]
+#[derive(Clone, Copy)]
 pub struct Machine {
     pub words: [u32; EDGES],
 }
 
-#[derive(Drop)]
+#[derive(Clone, Copy)]
 pub struct Stepped {
     pub machine: Machine,
     pub answer: Answer,

@@ -18,7 +18,7 @@ const SHOWN: u16 = NODES as u16;
 // gates: how many nodes are no inputs; node: these, in evaluation order; first: where the signals that node v sees begin, those of node v + 1 after
 //   them;
 // sees: the signals, in rising order of the edges; truth: its truth word; index: the table that this is read by.
-#[derive(Drop)]
+#[derive(Clone, Copy)]
 pub struct Plan {
     pub gates: usize,
     pub node: [u16; NODES],

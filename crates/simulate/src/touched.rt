@@ -7,7 +7,7 @@ use graph::{EDGES, NODES};
 use netlist::Netlist;
 
 // ins, outs, regs: how many inputs, outputs and edges with a register there are; input, output, reg: these, in rising order.
-#[derive(Drop)]
+#[derive(Clone, Copy)]
 pub struct Lists {
     pub ins: usize,
     pub outs: usize,

@@ -1,6 +1,8 @@
 // The smallest choice of bits under which a row of gates gives what is due, whatever the order of its cells: they are numbered anew, by the leading bits
 // that they depend on, and handed to the search.
 // Internal: asks of the caller a right program.
+#![tactic(auto)]
+
 mod numbers;
 mod renumber;
 mod spans;

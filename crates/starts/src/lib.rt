@@ -1,4 +1,6 @@
 // The start values of the moved netlist. Internal: asks of the caller the labels of the least retiming (`Moving`).
+#![tactic(auto)]
+
 mod ahead;
 mod ring;
 mod words;

@@ -1,9 +1,9 @@
 -- What is due of the cells: the old start values that the moved netlist has to carry. A due is the number 2 i + x: cell i must give x.
---   cell_at              the cell of node v at clock t
+--   cell_at             the cell of node v at clock t
 --   Carry               the old value s of edge e is to be carried: the node that e leaves gives it at clock t
 --   dueOf               that value as a due
 --   Owed, Dues          the first dues are those of the values that are to be carried: nothing else, and all of them
---   due_at               the same due, by the numbers that it is made of
+--   due_at              the same due, by the numbers that it is made of
 --   Celled              each node has a cell for each clock below its lag
 --   DuesTo              runs of clocks: the dues of all clocks below `low`, and of the first n edges of a list those below `high`, in so many rows, none of them empty
 --   FewRows             how many rows there are at most when all clocks below `low` are put, in runs that end at 1, 3, 7, 15 and 24

@@ -1,7 +1,7 @@
 -- The operands of the cells, and their kinds.
 --   sourceAt            what an edge shows at clock t: a chosen value, or a cell
 --   SourceRows          the rows that it is read from are there
---   width_at             how many operands a cell has
+--   width_at            how many operands a cell has
 --   OperandRows         a cell's operands can be read
 --   Operands            the operands of the first cells
 use Rattle.std.specs.Prelude.{◌≡◌, cond, List, ℕ, ◌+◌, ◌*◌, ◌-◌, ◌/◌, ◌%◌, ◌<◌, ◌≤◌, ltb, length}

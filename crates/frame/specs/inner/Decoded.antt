@@ -1,6 +1,6 @@
 -- What the code makes of a line: its bytes in an array of 16, or none. No line of document 01 has more.
 --   Digits table        the table gives each byte's value as a digit
---   pair_of a b          the byte of the digits a and b; 256 where one of them is none
+--   pair_of a b         the byte of the digits a and b; 256 where one of them is none
 --   decoded l           the record of the line l
 --   framed k n l        the record of the line of kind k with n more bytes at the front of l
 use Rattle.std.specs.Prelude.{◌≡◌, true, false, cond, List, ◌++◌, ℕ, ◌+◌, ◌*◌, ◌-◌, ◌<◌, ltb, leb, length, get_or, replicate}

@@ -1,6 +1,6 @@
 -- Small things that arrival times tell of.
 --   Above               one of the first n is above p
---   oneIf, mark_of       1 for the kind that is asked for, else 0
+--   oneIf, mark_of      1 for the kind that is asked for, else 0
 use Rattle.std.specs.Prelude.{Bool, true, false, List, ℕ, ◌<◌, eqb}
 use Rattle.graph.specs.Columns.{at}
 

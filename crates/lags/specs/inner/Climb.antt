@@ -1,5 +1,5 @@
 -- Climbing: labels and arrival times together, from below. A mark is label · 2^20 + time.
---   label_of, timeOf     a mark's label and time
+--   label_of, timeOf    a mark's label and time
 --   floorOf             the mark that a node has by its kind alone: at a pin label 16,384
 --   Askable             edges that can be asked
 --   AskedMark           the highest mark that a floor and some edges ask for

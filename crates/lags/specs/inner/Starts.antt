@@ -1,5 +1,5 @@
 -- Distances, and the labels to start from.
---   start_of             the distance that a node of a kind starts from
+--   start_of            the distance that a node of a kind starts from
 --   distanceSum         the sum of all distances: the reason why sweeps end
 --   Far                 distances on the way: 0 at a pin, and reached by a walk from one
 --   NoShorter           no edge offers a shorter way

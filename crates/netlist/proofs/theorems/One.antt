@@ -22,5 +22,5 @@ one-writing net old s s' new new' w w' =
     let e = one-reading (text_of net) w.checked w'.checked w.same w'.same w.check w'.check in
     let n = length (text_of net) in
     let m = length old in
-    let f : s ≡ s' = else-one (stops-one w'.checked) (needs-one n m) s s' (subst (λ c. (Stops c or_else Needs n m) s) e.0 w.answer) w'.answer in
+    let f : s ≡ s' = else-one (stops-one w'.checked) (needs-one n m) s s' (subst (λ c. (Stops c orElse Needs n m) s) e.0 w.answer) w'.answer in
     (f, w.buffer ∙ ap (λ c. holds c (text_of net) old) f ∙ sym w'.buffer)

@@ -36,7 +36,7 @@ round-trip-text t net old s new r room w =
 
 -- ── Written and read ────────────────────────────────────────────────────────────────────────
 
-pub all-written : (c : Said) {n m k : ℕ} → (Stops c or_else Needs n m) (value k) → (i : ℕ) × (c ≡ value i) × (k ≡ n) × (n ≤ m)
+pub all-written : (c : Said) {n m k : ℕ} → (Stops c orElse Needs n m) (value k) → (i : ℕ) × (c ≡ value i) × (k ≡ n) × (n ≤ m)
 all-written c r = let a = stops-value c r in let b = needs-value a.2 in (a.0, a.1, b.0, b.1)
 
 -- The bytes written are the record's text. It was checked by reading it; what that read is the same netlist (`record-fact`), and where the record's other rows
@@ -72,6 +72,6 @@ record-rows-unread net net' s old a new w =
       checked = w.checked;
       same = w.same;
       check = subst (λ x. Reads x w.checked w.same) e w.check;
-      answer = subst (λ x. (Stops w.checked or_else Needs (length x) (length old)) a) e w.answer;
+      answer = subst (λ x. (Stops w.checked orElse Needs (length x) (length old)) a) e w.answer;
       buffer = w.buffer ∙ ap (λ x. holds a x old) e;
     }

@@ -1,5 +1,5 @@
 -- What the stages of checking a record owe each other.
---   rows_to m f n        m rows: f 0, f 1, … n of them, and 0 in the others
+--   rows_to m f n       m rows: f 0, f 1, … n of them, and 0 in the others
 --   cut net n m         the record of the first n nodes and the first m edges of net
 --   Tested net n m a    with the answer a: the head, the first n nodes and the first m edges keep their rules; or a is the first fault of the record's text
 use Rattle.std.specs.Prelude.{◌≡◌, List, ℕ, zero, suc, get_or, set}

@@ -19,4 +19,4 @@ abbrev pub Lined : List ℕ → Answer → Netlist → Type 0
 Lined t a net = Goes a (lines_of t) (lines net) net
 
 abbrev pub Sought : (ℕ → Type 0) → ℕ → ℕ → Said → Type 0
-Sought Rule n q = GivenAt (Lowest Rule n) (atNode q) or_else Otherwise (value 0)
+Sought Rule n q = GivenAt (Lowest Rule n) (atNode q) orElse Otherwise (value 0)

@@ -21,7 +21,7 @@ pub record Tightens (net : Netlist) (met : Bool) (p : ℕ) (lab : List ℕ) : Ty
   pub none : met ≡ false → NoneMeetsIn net 65535
 
 abbrev pub FromEight : Netlist → (ℕ → ℤ) → Said → Type 0
-FromEight net r = Given (NoneMeetsIn net 65535) (whole 8) or_else GivenAt (λ p. Smallest net p × LeastIn net p r) value
+FromEight net r = Given (NoneMeetsIn net 65535) (whole 8) orElse GivenAt (λ p. Smallest net p × LeastIn net p r) value
 
 pub record QuotesNet (net : Netlist) (s : Said) (registers largest number : ℕ) : Type 0 where
   pub lag : ℕ → ℤ

@@ -11,7 +11,7 @@ use Rattle.moves.specs.Moved.{movedNet}
 use Rattle.retime.specs.Retime.{NoneMeets, lagTable, MovedBy, Short}
 
 abbrev pub FromShort : List ℕ → List ℕ → List ℤ → Netlist → (ℕ → ℤ) → ℕ → Said → Type 0
-FromShort t out lags net r c = Given (Short t out lags net) (whole 12) or_else Given (NoneMeets net) (whole 8) or_else MovedBy net r c
+FromShort t out lags net r c = Given (Short t out lags net) (whole 12) orElse Given (NoneMeets net) (whole 8) orElse MovedBy net r c
 
 pub record Leaves (F : (ℕ → ℤ) → ℕ → Said → Type 0) (net : Netlist) (out : List ℕ) (lags : List ℤ) (s : Said) (out' : List ℕ) (lags' : List ℤ) : Type 0 where
   pub lag : ℕ → ℤ

@@ -4,7 +4,7 @@
 --   AskedAt lab t v     node v is asked for at clock t: its lag is below −t
 --   Followed            what is left in the ring: of each node the last 32 values that are asked for
 --   NothingYet          nothing is in the rows yet
---   slot_of, edgeSlot    where the value stands that an edge shows in clock s: by its source u, its w registers and their start values `word`; of edge e
+--   slot_of, edgeSlot   where the value stands that an edge shows in clock s: by its source u, its w registers and their start values `word`; of edge e
 --   Slots               the slots from place lo up to place hi are those of the edges there
 --   Puts                they are put there, and nothing else is
 --   SlotsOf             the slots are right at the places of the first n nodes of a list

@@ -1,5 +1,5 @@
 -- The new start values.
---   start_at             new start value t of an edge
+--   start_at            new start value t of an edge
 --   shownSlot           where the ring holds what the original shows as new start value t of an edge: by the label of the node that it enters
 --   startsAt            an edge's new start values, as a word
 use Rattle.std.specs.Prelude.{List, ℕ, ◌+◌, ◌-◌}

@@ -1,0 +1,6 @@
+-- `graph::layers::reached` meets its contract: `reached-told` of the last layer.
+use Rattle.graph.proofs.Passes.{reached-told}
+use Rattle.graph.proofs.layers.reached.Goals as goal
+
+pub returns : goal.returns
+returns c = let r = c.layers-last in reached-told c.requires.0 r.result r.ensures.0 r.ensures.1

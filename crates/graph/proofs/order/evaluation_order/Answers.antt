@@ -1,0 +1,6 @@
+-- `graph::order::evaluation_order` meets its contract: `found-ordered`.
+use Rattle.graph.proofs.Evaluation.{found-ordered}
+use Rattle.graph.proofs.order.evaluation_order.Goals as goal
+
+pub returns : goal.returns
+returns c = found-ordered c.order_of-found.ensures c.requires.by_index

@@ -1,0 +1,7 @@
+-- `graph::reach::fan_ins` meets its contract: the edges that enter a node are counted.
+use Rattle.std.proofs.Common.{arith}
+use Rattle.graph.proofs.Answers.{same_at}
+use Rattle.graph.proofs.reach.fan_ins.Goals as goal
+
+pub count_keys-requires : goal.count_keys-requires
+count_keys-requires c = let f = c.requires in (f.to-rows, omega (arith, f.edges_fit), f.nodes-fit, same_at 512 0 f.nodes-fit)

@@ -1,0 +1,10 @@
+-- `lags::climb::labels_of` meets its contract: the labels below v are filled.
+use Rattle.std.proofs.Common.{ℕ, ◌-◌, ◌≤◌, ◌<◌, ◌≡◌, length, get_or}
+use Rattle.lags.specs.inner.Climb.{label_of}
+use Rattle.lags.proofs.climb.labels_of.Given as goal
+
+abbrev pub invariant-loop-v : goal.invariant-loop-v
+invariant-loop-v l = (l.v ≤ l.nodes) × (length l.lab ≡ 512) × ((k : ℕ) → k < l.v → get_or l.lab k 0 ≡ label_of (get_or l.mark k 0))
+
+abbrev pub decreases-loop-v : goal.decreases-loop-v
+decreases-loop-v l = l.nodes - l.v

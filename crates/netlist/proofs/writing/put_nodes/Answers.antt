@@ -1,0 +1,31 @@
+use Rattle.std.proofs.Common.{◌≡◌, ◌+◌, ◌*◌, ◌≤◌, arith, rules, ap, ap₂, ◌∙◌, length}
+use Rattle.std.proofs.lemmas.List.Edits.{sets}
+use Rattle.frame.specs.Frame.{line_of, placed}
+use Rattle.netlist.specs.Write.{nodeLine, joined}
+use Rattle.netlist.proofs.Written.{length-joined, node-length, put-more}
+use Rattle.netlist.proofs.writing.put_nodes.Goals as goal
+
+pub loop-i-init : goal.loop-i-init
+unfolding joined
+loop-i-init c = search rules
+
+pub loop-i-preserved : goal.loop-i-preserved
+loop-i-preserved c =
+    let here = c.loop-i in
+    let a = c.args in (
+      omega arith,
+      omega arith,
+      c.put_line.ensures
+          ∙ ap (placed _ _) (ap line_of c.node_bytes.ensures)
+          ∙ ap₂ (λ l at. placed l at (nodeLine a.net here.i)) here.invariant.2 here.invariant.1
+          ∙ put-more (nodeLine a.net) 7 (node-length a.net) a.out.now a.at0 here.i (omega arith),
+    )
+
+pub returns : goal.returns
+returns c =
+    let here = c.loop-i in
+    let net = c.args.net in
+    let e : here.i ≡ net.nodes = omega arith in (
+      here.invariant.2 ∙ ap (λ n. sets c.args.out.now c.args.at0 (joined (nodeLine net) n)) e,
+      omega (arith, length-joined (nodeLine net) 7 (node-length net) net.nodes, here.invariant.1),
+    )

@@ -1,0 +1,7 @@
+-- `netlist::writing::text_len` meets its contract, by the lengths of the lines.
+use Rattle.std.proofs.Common.{arith}
+use Rattle.netlist.proofs.Written.{text-length}
+use Rattle.netlist.proofs.writing.text_len.Goals as goal
+
+pub returns : goal.returns
+returns c = let l = text-length c.args.net in (omega (arith, l), omega arith)

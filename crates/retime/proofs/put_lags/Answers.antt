@@ -1,0 +1,22 @@
+-- One lag more is put.
+use Rattle.std.proofs.Common.{arith, add-one, refl, ◌∙◌}
+use lib.ListN.{set}
+use mathlib.Core.Path.{ap₂}
+use mir.Syntax.{w32}
+use mir.Facts.{to_z-of_z}
+use Rattle.lags.proofs.Laws.{lag-fits}
+use Rattle.netlist.specs.Write.{joined}
+use Rattle.moves.specs.inner.Labels.{lagsOf}
+use Rattle.moves.proofs.Rows.{rows_more}
+use Rattle.retime.proofs.put_lags.Goals as goal
+
+pub loop-v-init : goal.loop-v-init
+unfolding joined
+loop-v-init c = (omega arith, refl)
+
+pub loop-v-preserved : goal.loop-v-preserved
+loop-v-preserved c =
+    let a = c.args in
+    let i = c.loop-v.v in
+    let v = to_z-of_z {w = w32} {z = c.lag_of.result} (rw c.lag_of.ensures (lag-fits _ (c.requires.by_index i (omega arith)))) ∙ c.lag_of.ensures in
+    (omega arith, rw (add-one i) (ap₂ (λ l x. set l i x) c.loop-v.invariant.1 v ∙ rows_more (lagsOf a.lab.now) i a.lags.now (omega arith)))

@@ -1,0 +1,23 @@
+-- `search::choices::evaluate` meets its contract: the cells below i are evaluated, under whatever choice those below `start` were.
+use Rattle.std.proofs.Common.{◌+◌, ◌<◌, arith, length-set, ◌∙◌}
+use Rattle.graph.specs.Columns.{at}
+use Rattle.search.proofs.States.{truth-next, valued-seen, valued-value, valued-more}
+use Rattle.search.proofs.choices.evaluate.Goals as goal
+
+-- The signals are those of the choice that was asked for.
+pub value-requires : goal.value-requires
+value-requires c =
+    let s = c.requires in
+    let v = c.loop-i.invariant.1 s.cells s.k s.choice s.kind s.ready s.within s.valued in
+    (s.ready.table, valued-seen s.ready v (omega (arith, s.within, c.loop-i-test.true)))
+
+pub loop-i-preserved : goal.loop-i-preserved
+loop-i-preserved c =
+    let l = c.loop-i in (
+      omega arith,
+      λ cells k n kind r h v.
+          let w = l.invariant.1 cells k n kind r h v in
+          let q : l.i < cells = omega (arith, c.loop-i-test.true) in
+          valued-more r w q (valued-value r w q (c.value.ensures.1 (at kind l.i) (truth-next r q))),
+      length-set l.sig (32 + l.i) _ ∙ l.invariant.2,
+    )
