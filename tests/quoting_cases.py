@@ -163,10 +163,10 @@ def heads(rng: Random) -> Iterator[Case]:
         yield case(replace(CARDS[name], period=0), Refusal(2, LINE, 1))
     for derate in (0, 49, 251, 255):
         yield case(replace(card_a(), derate=derate), Refusal(2, LINE, 1))
-    yield case(replace(card_a(), derate=50), Quote(1, 2, 1, 0))  # a half is rounded upward: the working delay is 1
-    yield case(replace(card_a(), derate=250), Quote(3, 2, 1, 0))
-    yield case(replace(card_f(), derate=50), Quote(2, 0, 0, 0))
-    yield case(replace(card_f(), derate=250), Quote(6, 0, 0, 0))
+    yield case(replace(card_a(), derate=50), Quote(1, 2, 2, 0))  # a half goes to even: the working delay is 0
+    yield case(replace(card_a(), derate=250), Quote(2, 2, 1, 0))
+    yield case(replace(card_f(), derate=50), Quote(1, 0, 0, 0))
+    yield case(replace(card_f(), derate=250), Quote(4, 0, 0, 0))
     for _ in range(8):
         net = thinned(rng, random_small(rng, 12), (1, 1, 1, 2, 3))
         yield case(net)
@@ -186,8 +186,9 @@ def in_a_row(gates: int, registers: dict[int, int], delay: int = 1, derate: int 
     """
     net = row_of([delay] * gates, registers, derate)
     total = sum(registers.values())
-    m = -(-gates // (total + 1))
-    period = m * working_delay(net.nodes[1], derate)
+    worked = working_delay(net.nodes[1], derate)
+    m = -(-gates // (total + 1)) if worked else gates
+    period = max(1, m * worked)
     if period > LONGEST_PERIOD:
         return case(net, NO_RETIMING)
     cuts = range(m, gates, m)  # the edges between two gates that hold a register
@@ -207,7 +208,8 @@ def ends(rng: Random) -> Iterator[Case]:
     yield in_a_row(103, {103: 1}, 255, 250)
     for registers in (0, 1, 4, 5, 32):  # 510 gates of 638: 325,380, which 16 bits would take for 63,236
         yield in_a_row(510, {510: registers}, 255, 250)
-    for delay, derate in ((1, 50), (1, 149), (1, 150), (1, 151), (3, 50), (5, 50), (255, 50), (255, 249), (99, 101)):
+    for delay, derate in ((1, 50), (1, 149), (1, 150), (1, 151), (1, 250), (3, 50), (3, 150), (3, 250), (5, 50), (5, 150), (7, 50),
+                          (253, 50), (255, 50), (253, 250), (255, 249), (99, 101)):
         yield in_a_row(1, {}, delay, derate)
         yield in_a_row(5, {0: 1, 5: 1}, delay, derate)
     yield case(beside([row_of([255] * 103, {}, 250), card_a()]), NO_RETIMING)

@@ -6,7 +6,7 @@ each edge and one for each pair of nodes that a chain longer than the period joi
 takes all choices at once, as words with one bit per choice; and a value at a clock is asked for
 only where a start value hangs on it, so that an input asked for would show as an error.
 
-  working_delay           delay times derate, rounded
+  working_delay           delay times derate, rounded, a half to even
   critical_chains         the chains that decide: fewest registers, and of these the longest
   constraints, least_lags the legal retimings that meet the period, and the least of them
   moved_counts, rewired   "each edge's new count w + r(v) - r(u)"; the netlist with these
@@ -26,6 +26,7 @@ from __future__ import annotations
 from collections import deque
 from collections.abc import Callable, Iterator, Sequence
 from dataclasses import dataclass, replace
+from fractions import Fraction
 from heapq import heappop, heappush
 from struct import Struct
 
@@ -38,12 +39,12 @@ from reference import (
 
 
 def working_delay(node: Node, derate: int) -> int:
-    """"Delay times derate, divided by 100, rounded to the nearest whole, a half upward."
+    """"Delay times derate, divided by 100, rounded to the nearest whole", "a half to the even neighbour".
 
-    >>> [working_delay(Node(2, delay), 50) for delay in (1, 2, 3, 255)]
-    [1, 1, 2, 128]
+    >>> [working_delay(Node(2, delay), 50) for delay in (1, 2, 3, 5, 7, 253, 255)]
+    [0, 1, 2, 2, 4, 126, 128]
     """
-    return (node.delay * derate + 50) // 100
+    return round(Fraction(node.delay * derate, 100))
 
 
 def critical_chains(net: Netlist, limit: float) -> Iterator[dict[int, tuple[int, int]]]:

@@ -246,10 +246,17 @@ def cards(rng: Random) -> Iterator[Case]:
     for derate in (49, 251, 0, 255):
         yield case(replace(card_d(2), derate=derate), Refusal(2, LINE, 1))
     yield unmoved(replace(card_d(2), derate=50))
-    yield case(replace(card_d(1), derate=50), NO_START)  # a half is rounded upward: the working delay is 1
-    yield case(replace(card_d(4), derate=250), NO_START)  # twice 3
-    yield unmoved(replace(card_d(6), derate=250))
-    yield case(replace(card_d(2), derate=250), NO_RETIMING)
+    yield unmoved(replace(card_d(1), derate=50))  # a half goes to even: the working delay is 0
+    yield unmoved(replace(card_d(4), derate=250))  # twice 2
+    yield case(replace(card_d(3), derate=250), NO_START)
+    yield case(replace(card_d(2), derate=250), NO_START)
+    yield case(replace(card_d(1), derate=250), NO_RETIMING)
+    for derate, period, moved, lags in ((50, 1, {0: (0, 0), 2: (2, 2)}, [0, -1, -1, 0]),  # 0.5 is 0: as card B
+                                        (250, 2, {0: (0, 0), 1: (1, 0)}, [0, -1, 0, 0]),  # 2.5 is 2: as card A
+                                        (250, 4, {0: (0, 0), 2: (2, 2)}, [0, -1, -1, 0])):
+        a = replace(card_a(period), derate=derate)
+        yield case(a, (with_edges(a, moved), lags))
+    yield case(replace(card_a(1), derate=250), NO_RETIMING)
     yield case(line_of(1, [BUFFER], {0: (32, 5)}), (line_of(1, [BUFFER], {1: (32, 5)}), [0, -32, 0]))
     yield unmoved(line_of(1, [], {0: (32, 1 << 31)}))
     yield case(line_of(1, [BUFFER], {0: (33, 0)}), Refusal(4, LINE, 5))
@@ -262,18 +269,33 @@ def cards(rng: Random) -> Iterator[Case]:
 # --- Working delays and the period --------------------------------------------------------------
 
 
+def of_delays(net: Netlist, derate: int, delays: Sequence[int]) -> Netlist:
+    """The row with gates of these delays."""
+    gates = [replace(node, delay=delay) for node, delay in zip(net.nodes[1:-1], delays)]
+    return replace(net, derate=derate, nodes=[net.nodes[0], *gates, net.nodes[-1]])
+
+
 def one_gate(delay: int, derate: int, period: int) -> Netlist:
     net = line_of(period, [INVERTER], {1: (1, 1)})
     return replace(net, derate=derate, nodes=[net.nodes[0], Node(INVERTER, delay), net.nodes[2]])
 
 
 def delays(rng: Random) -> Iterator[Case]:
-    """Rounding to the nearest whole, a half upward; chains whose delays add up to far above 65,535."""
-    for delay, derate, worked in ((1, 50, 1), (1, 149, 1), (1, 150, 2), (1, 151, 2), (3, 50, 2), (255, 50, 128),
-                                  (255, 250, 638), (255, 249, 635), (254, 250, 635), (99, 101, 100), (7, 107, 7)):
-        yield unmoved(one_gate(delay, derate, worked))
+    """Rounding to the nearest whole, a half to even; delays of 0; chains whose delays add up to far above 65,535."""
+    for delay, derate, worked in ((1, 50, 0), (3, 50, 2), (5, 50, 2), (7, 50, 4), (253, 50, 126), (255, 50, 128), (1, 149, 1), (1, 150, 2),
+                                  (3, 150, 4), (5, 150, 8), (1, 151, 2), (1, 250, 2), (3, 250, 8), (253, 250, 632), (255, 250, 638),
+                                  (255, 249, 635), (254, 250, 635), (99, 101, 100), (7, 107, 7)):
+        yield unmoved(one_gate(delay, derate, max(worked, 1)))
         if worked > 1:
             yield case(one_gate(delay, derate, worked - 1), NO_RETIMING)
+    # two gates of 2, and rows of gates of 0: any number of these fits a period of 1
+    yield unmoved(of_delays(line_of(4, [BUFFER, BUFFER], {}), 50, [3, 5]))
+    yield case(of_delays(line_of(3, [BUFFER, BUFFER], {}), 50, [3, 5]), NO_RETIMING)
+    for gates in (2, 300, 510):
+        kinds = [INVERTER, BUFFER] * (gates // 2)
+        yield unmoved(of_delays(line_of(1, kinds, {gates: (3, 5)}), 50, [1] * gates))
+        yield case(of_delays(line_of(1, kinds, {0: (3, 5), gates // 2: (1, 1)}), 50, [1] * gates))
+        yield case(of_delays(line_of(2, kinds, {0: (1, 1), gates: (2, 1)}), 50, [1, 3] * (gates // 2)))
     # rows of 102 and 103 gates of 638: 65,076 and 65,714; of 510: 325,380, which 16 bits would take for 63,236
     for gates, registers in ((102, 0), (103, 0), (103, 1), (510, 0), (510, 4), (510, 5)):
         net = line_of(65535, [BUFFER] * gates, {gates: (registers, 0)})

@@ -458,6 +458,18 @@ def long_runs(rng: Random) -> Iterator[Case]:
 # --- Cards, random netlists ---------------------------------------------------------------------
 
 
+def gates_of_no_time(rng: Random) -> Iterator[Case]:
+    """Rows of gates whose working delay is 0, and their retimed forms: all their registers before the output."""
+    for gates in (2, 300, 510):
+        kinds, given = [INVERTER, BUFFER] * (gates // 2), random_bits(rng, 20)
+        turned = gates // 2 % 2  # inverters in the row, odd or even
+        for registers, last in (({0: (3, 5)}, (3, 5 ^ 7 * turned)), ({gates: (3, 5)}, (3, 5))):
+            for net in (line_of(1, kinds, registers), line_of(1, kinds, {gates: last})):
+                nodes = [replace(node, delay=1 if node.delay else 0) for node in net.nodes]
+                starts = bits_of(last[1], 3)
+                yield ran(replace(net, derate=50, nodes=nodes), given, delayed(starts, [bit ^ turned for bit in given]))
+
+
 def cards(rng: Random) -> Iterator[Case]:
     """"H*: vectors 1, 0, 1, 1 run to 1, 1, 0, 1", and every card's netlist on some clocks."""
     yield ran(card_h(), [1, 0, 1, 1], [1, 1, 0, 1])
@@ -582,6 +594,7 @@ def running_cases(seed: int) -> dict[str, list[Case]]:
         "reconvergence and order": list(reconvergence(Random(seed + 4))),
         "pins": list(pins(Random(seed + 5))),
         "long runs": list(long_runs(Random(seed + 6))),
+        "gates of no time": list(gates_of_no_time(Random(seed + 11))),
         "random": list(random_runs(Random(seed + 7), 160)),
         "largest netlist": list(large(Random(seed + 8))),
         "13: vectors": list(refused_vectors()),

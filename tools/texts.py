@@ -4,7 +4,7 @@
   printed_by(text)        what the proved program `listing` prints for a text
   Printed                 that output taken apart: the new text and the lags, or the refusal
   node_name, edge_name    a node by kind and number, an edge by its ends
-  working_delay           "delay times derate, divided by 100, rounded to the nearest whole, a half upward"
+  working_delay           "delay times derate, divided by 100, rounded to the nearest whole, a half to the even neighbour"
   longest_chain           the nodes of a longest chain, and the sum of their working delays
 
 Python 3.9 or later, standard library only.
@@ -118,10 +118,11 @@ def values_of(count: int, starts: int) -> str:
 
 def working_delay(delay: int, derate: int) -> int:
     """
-    >>> working_delay(1, 50), working_delay(1, 149), working_delay(3, 50)
-    (1, 1, 2)
+    >>> working_delay(1, 50), working_delay(1, 149), working_delay(3, 50), working_delay(5, 50)
+    (0, 1, 2, 2)
     """
-    return (delay * derate + 50) // 100
+    whole, rest = divmod(delay * derate, 100)
+    return whole + (2 * rest + whole % 2 > 100)
 
 
 def longest_chain(net: Netlist) -> tuple[list[int], int]:

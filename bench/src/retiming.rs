@@ -7,7 +7,7 @@
 use crate::reference::{
     bit_of, put_netlist, read, read_with_order, truth, Answer, Engine, Lists, Netlist, Refusal, OUTPUT,
 };
-use std::cmp::Reverse;
+use std::cmp::{Ordering, Reverse};
 use std::collections::BinaryHeap;
 
 const LONGEST_PERIOD: u32 = 65_535;
@@ -19,9 +19,19 @@ const SIGNALS: usize = 1 << 16;
 
 // --- The least lags -------------------------------------------------------------------------------
 
-/// "Delay times derate, divided by 100, rounded to the nearest whole, a half upward."
+/// "Delay times derate, divided by 100, rounded to the nearest whole", "a half to the even neighbour".
 pub fn working_delays(net: &Netlist) -> Vec<u32> {
-    net.nodes.iter().map(|node| (u32::from(node.delay) * u32::from(net.derate) + 50) / 100).collect()
+    net.nodes.iter().map(|node| rounded(u32::from(node.delay) * u32::from(net.derate))).collect()
+}
+
+/// Hundredths, rounded so.
+fn rounded(hundredths: u32) -> u32 {
+    let (whole, rest) = (hundredths / 100, hundredths % 100);
+    match rest.cmp(&50) {
+        Ordering::Less => whole,
+        Ordering::Equal => whole + whole % 2,
+        Ordering::Greater => whole + 1,
+    }
 }
 
 /// The edges by the node that they leave: where they lead, and how many registers they hold.

@@ -8,11 +8,12 @@ ghost use Rattle.lags.specs.inner.Rounds.{Low, LabelOrder, Readable, LatestTime,
 use graph::NODES;
 use netlist::Netlist;
 
-// "delay times derate, divided by 100, rounded to the nearest whole, a half upward."
+// "delay times derate, divided by 100, rounded to the nearest whole", "a half to the even neighbour": before an even whole part a half falls short by one hundredth.
 fn working(delay: u8, derate: u8) -> u32
     ensures { (result ≡ working delay derate) × (result < 1000) }
 {
-    ((delay as u32) * (derate as u32) + 50) / 100
+    let x = (delay as u32) * (derate as u32);
+    (x + 49 + x / 100 % 2) / 100
 }
 
 // The working delays.

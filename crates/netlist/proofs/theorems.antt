@@ -12,6 +12,8 @@ pub mod More
 pub mod Record
 -- What reads is sound: read-is-sound.
 pub mod Sound
+-- What a half is rounded to: nearest-even, half-cards; and the sum by which it is found.
+pub mod Halves
 -- Demand 2, and rows that are read by nothing: round-trip-text, round-trip-netlist, record-rows-unread.
 pub mod RoundTrip
 -- A record has a writing, and is written exactly where it keeps the rules: some-writing, sound-written.

@@ -1,8 +1,9 @@
 -- The netlist record: a row of each kind put in, and the circuit that it stands for.
 --   netWith                                   the record with these fields
 --   emptyNet, with_head, withNode, withEdge   the record as reading fills it
+--   rounded, working                          hundredths rounded to a whole number; a working delay
 --   graph_of, regs_of, delayOf                the theory's graph and registers, and the working delays
-use Rattle.std.specs.Prelude.{List, ℕ, ◌+◌, ◌*◌, ◌/◌, get_or, set, replicate}
+use Rattle.std.specs.Prelude.{cond, List, ℕ, ◌+◌, ◌*◌, ◌/◌, ◌%◌, eqb, ltb, get_or, set, replicate}
 use Rattle.theory.specs.Graph.{Graph}
 use Rattle.theory.specs.Clock.{Regs}
 use Rattle.graph.specs.Columns.{bit, columnGraph}
@@ -38,9 +39,13 @@ graph_of net = columnGraph net.nodes net.edges net.kind net.from net.to
 abbrev pub regs_of : Netlist → Regs
 regs_of net = record { count = λ e. get_or net.count e 0; start = λ e k. bit (get_or net.start e 0) k }
 
--- "Working delay: delay times derate, divided by 100, rounded to the nearest whole, a half upward."
+-- Hundredths "rounded to the nearest whole", "a half to the even neighbour".
+unfoldable pub rounded : ℕ → ℕ
+rounded x = cond (ltb 50 (x % 100)) (x / 100 + 1) (cond (eqb (x % 100) 50) (x / 100 + x / 100 % 2) (x / 100))
+
+-- "Working delay: delay times derate, divided by 100", and rounded so. "A working delay of 0 is fine."
 unfoldable pub working : ℕ → ℕ → ℕ
-working delay derate = (delay * derate + 50) / 100
+working delay derate = rounded (delay * derate)
 
 abbrev pub delayOf : Netlist → ℕ → ℕ
 delayOf net v = working (get_or net.delay v 0) net.derate

@@ -11,12 +11,13 @@
 --   SoundWritten                           a record that keeps all rules is written, and no other
 --   ReadIsSound                            what reads is a sound circuit
 --   RoundTripText, RoundTripNetlist        demand 2
+--   NearestEven, HalfCards                 a working delay is the nearest whole number, the even one of two; the examples
 --   RecordRowsUnread                       rows past the netlist's are read by nothing
-use Rattle.std.specs.Prelude.{◌≡◌, Bool, true, false, ◌↔◌, List, [], ◌++◌, ℕ, ◌+◌, ◌<◌, ◌≤◌, length, get_or, take, drop}
+use Rattle.std.specs.Prelude.{◌≡◌, Bool, true, false, ◌↔◌, List, [], ◌++◌, ℕ, ◌+◌, ◌*◌, ◌%◌, ◌<◌, ◌≤◌, length, get_or, take, drop}
 use Rattle.frame.specs.Frame.{bad, frame_at, line, number_at}
 use Rattle.netlist.specs.declared.Netlist.{Netlist}
 use Rattle.netlist.specs.Answer.{Said, value, whole, atNode, atLine}
-use Rattle.netlist.specs.Net.{graph_of}
+use Rattle.netlist.specs.Net.{rounded, working, graph_of}
 use Rattle.netlist.specs.Circuit.{LoopIn, SoundIn}
 use Rattle.rules.specs.Rules.{headFits, nodeFits, edgeFits}
 use Rattle.netlist.specs.Read.{fault, lines, lines_of, Judged, Reads, AllInReach, FanInsFit, OutOfReach, WrongFanIn}
@@ -172,6 +173,16 @@ SoundWritten = (net : Netlist) → Typed net → (old : List ℕ) (n : ℕ) (new
 -- What reads is a sound circuit, so the theory speaks of it.
 abbrev pub ReadIsSound : Type 0
 ReadIsSound = (t : List ℕ) (net : Netlist) → Reads t (value 0) net → SoundIn net
+
+-- ── Working delays ──────────────────────────────────────────────────────────────────────────
+
+-- Of hundredths: no whole number is nearer, and where two are equally near it is the even one.
+abbrev pub NearestEven : Type 0
+NearestEven = (x : ℕ) → (100 * rounded x ≤ x + 50) × (x ≤ 100 * rounded x + 50) × (x % 100 ≡ 50 → rounded x % 2 ≡ 0)
+
+-- "Derate 50 makes delay 1 into 0, delay 3 into 2 and delay 5 into 2."
+abbrev pub HalfCards : Type 0
+HalfCards = (working 1 50 ≡ 0) × (working 3 50 ≡ 2) × (working 5 50 ≡ 2) × (working 255 250 ≡ 638) × (working 253 250 ≡ 632)
 
 -- ── Demand 2 ────────────────────────────────────────────────────────────────────────────────
 

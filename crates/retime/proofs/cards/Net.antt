@@ -21,7 +21,8 @@ use Rattle.theory.proofs.cards.Table.{in-line}
 use Rattle.theory.proofs.cards.Table as Table
 use Rattle.netlist.specs.declared.Netlist.{Netlist}
 use Rattle.netlist.specs.Answer.{whole, atEdge}
-use Rattle.netlist.specs.Net.{zeros, graph_of, regs_of, working, delayOf}
+use Rattle.netlist.specs.Net.{zeros, graph_of, regs_of, rounded, working, delayOf}
+use Rattle.netlist.proofs.theorems.Halves.{rounded-whole}
 use Rattle.netlist.specs.Write.{joined, text_of}
 use Rattle.netlist.proofs.Rows.{zeros-at}
 use Rattle.moves.specs.Moved.{with_regs}
@@ -75,7 +76,7 @@ module _ (t : Rows) (period : ℕ) where
   delay-is = λ i v. full v i
     where
       full : (v : ℕ) → delayOf (netOf t period) v ≡ at t.delay v
-      full v = ap (λ d. (d * 100 + 50) / 100) (padded-at 512 t.delay v) ∙ omega arith
+      full v = ap (λ d. rounded (d * 100)) (padded-at 512 t.delay v) ∙ rounded-whole (at t.delay v)
 
 -- The registers of counts and words.
 abbrev pub newRegs : List ℕ → List ℕ → Regs
