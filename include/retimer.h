@@ -91,6 +91,11 @@ retimer_answer retimer_retime(const uint8_t *text, size_t text_len, uint8_t *out
  * Gives the period, 1 to 65,535. Refuses with 1 to 7, then 8 where 65,535 would be refused 8. */
 retimer_answer retimer_quote(const uint8_t *text, size_t text_len, struct retimer_figures *figures);
 
+/* Counts a text's rails: a chip whose branches of one node share registers pays at that node once for each different run of start
+ * values, read from the node outward. Each node's rails, in node order, go to the front of `table`, one word a node.
+ * Gives their total. Refuses with 1 to 7, then 12. */
+retimer_answer retimer_rails(const uint8_t *text, size_t text_len, uint32_t *table, size_t table_len);
+
 /* Reads a text and writes it again at the front of `out`.
  * Gives how many bytes it wrote. Refuses with 1 to 7, then 12. */
 retimer_answer retimer_reread(const uint8_t *text, size_t text_len, uint8_t *out, size_t out_len);

@@ -16,6 +16,7 @@ from collections.abc import Callable
 from pathlib import Path
 
 import quoting_cases as quoting
+import rails_cases as rails
 import reading_cases as reading
 import retiming_cases as retiming
 import running_cases as running
@@ -39,7 +40,7 @@ def listing_run() -> tuple[bytes, bytes]:
 
 
 def batch_run() -> tuple[bytes, bytes]:
-    """The program batch: texts to read and write again, then texts to list, then runs, then quotes."""
+    """The program batch: texts to read and write again, then texts to list, then runs, quotes and rails."""
     given, printed = [], []
     for name, cases in reading.reading_cases(SEED).items():
         given += [job(0, case.text) for case in cases]
@@ -53,11 +54,15 @@ def batch_run() -> tuple[bytes, bytes]:
     for name, cases in quoting.quoting_cases(SEED).items():
         given += [job(9, case.text) for case in cases]
         printed += told("quote", name, [quoting.expected(case) for case in cases])
+    for name, cases in rails.rails_cases(SEED).items():
+        given += [job(10, case.text, room=len(case.table)) for case in cases]
+        printed += told("rails", name, [rails.expected(case) for case in cases])
     return b"".join(given), b"".join(printed)
 
 
 def job(kind: int, text: bytes, vectors: bytes = b"", room: int = 0) -> bytes:
-    """A job: kind (1), text length (2), number of vector bytes (2), length of the buffer to run into (2); the text; the vectors."""
+    """A job: kind (1), text length (2), number of vector bytes (2), length of the buffer to run into or of the table to count
+    into (2); the text; the vectors."""
     numbers = (len(text), len(vectors), room)
     return frame_line(bytes([kind]) + b"".join(n.to_bytes(2, "big") for n in numbers)) + text + vectors
 

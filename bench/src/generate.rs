@@ -195,6 +195,59 @@ pub fn damage_netlist(rng: &mut Random, net: &mut Netlist) {
     }
 }
 
+// --- For rails ------------------------------------------------------------------------------------
+
+/// The same netlist, the branches of a node with start values that begin alike: each as the node's own row, or from some place
+/// on not.
+pub fn alike_starts(rng: &mut Random, mut net: Netlist) -> Netlist {
+    let rows: Vec<u32> = net.nodes.iter().map(|_| rng.draw() as u32).collect();
+    let apart = rng.pick(&[2, 2, 10]);
+    for edge in &mut net.edges {
+        let mut row = rows[usize::from(edge.from)];
+        if rng.one_in(apart) {
+            row ^= (rng.draw() as u32) >> rng.below(32);
+        }
+        edge.start = row.checked_shr(32 - u32::from(edge.count)).unwrap_or(0);
+    }
+    net
+}
+
+/// The most branches that one node can have: a gate takes eight at most, and one more edge must leave it.
+pub const MOST_BRANCHES: usize = 950;
+
+/// An input with all these branches (count and start values): outputs, then gates in a row, of which each sees the one before
+/// it.
+pub fn broad(branches: &[(u8, u32)]) -> Netlist {
+    const AND: u8 = 4;
+    let gates = branches.len().saturating_sub(437).div_ceil(7); // the first takes eight
+    let (to_outputs, mut left) = branches.split_at(branches.len().min(if gates > 0 { 436 } else { 511 }));
+    let mut kinds = vec![OUTPUT; 1 + to_outputs.len()];
+    kinds[0] = INPUT;
+    let branch = |to: usize, &(count, start): &(u8, u32)| Edge { start, ..edge(0, to, count) };
+    let mut edges: Vec<Edge> = to_outputs.iter().enumerate().map(|(i, one)| branch(1 + i, one)).collect();
+    for gate in 0..gates {
+        let here = kinds.len();
+        let (seen, rest) = left.split_at(left.len().min(if gate == 0 { 8 } else { 7 }));
+        edges.extend(seen.iter().map(|one| branch(here, one)));
+        edges.push(edge(here, here + 1, 0));
+        kinds.push(AND);
+        left = rest;
+    }
+    if gates > 0 {
+        kinds.push(OUTPUT);
+    }
+    drawn(1, &kinds, edges)
+}
+
+/// So many branches of 32 registers on one node, with random start values or with such as agree up to their last places.
+pub fn any_broad(rng: &mut Random, branches: usize) -> Netlist {
+    let (word, places) = (rng.draw() as u32, rng.pick(&[0, 1, 5, 12, 32]));
+    let all: Vec<(u8, u32)> = (0..branches).map(|_| (32, word ^ (rng.draw() & ((1 << places) - 1)) as u32)).collect();
+    let mut net = broad(&all);
+    rng.shuffle(&mut net.edges);
+    net
+}
+
 // --- For retiming ---------------------------------------------------------------------------------
 //
 // The shapes of tests/retiming_cases.py: random netlists as they come seldom choose a value.

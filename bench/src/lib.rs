@@ -5,6 +5,7 @@
 //! 2^63 + number * 2^32 + place kind * 2^16 + place.
 
 pub mod generate;
+pub mod rails;
 pub mod reference;
 pub mod retiming;
 
@@ -40,6 +41,7 @@ unsafe extern "C" {
         lags_len: usize,
     ) -> u64;
     fn retimer_quote(text: *const u8, text_len: usize, figures: *mut Figures) -> u64;
+    fn retimer_rails(text: *const u8, text_len: usize, table: *mut u32, table_len: usize) -> u64;
     fn retimer_reread(text: *const u8, text_len: usize, out: *mut u8, out_len: usize) -> u64;
 }
 
@@ -81,6 +83,11 @@ pub fn retime(text: &[u8], out: &mut [u8], lags: &mut [i32]) -> Answer<usize> {
 /// A text's quote: the smallest period that is not refused 8, and what the least retiming comes to there.
 pub fn quote(text: &[u8], figures: &mut Figures) -> Answer<usize> {
     answer(unsafe { retimer_quote(text.as_ptr(), text.len(), figures) })
+}
+
+/// A text's rails: each node's in the table, the total as the answer.
+pub fn rails(text: &[u8], table: &mut [u32]) -> Answer<usize> {
+    answer(unsafe { retimer_rails(text.as_ptr(), text.len(), table.as_mut_ptr(), table.len()) })
 }
 
 // --- Records --------------------------------------------------------------------------------------

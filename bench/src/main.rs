@@ -1,9 +1,10 @@
 //! Times the proved calls and the Rust ones side by side, in one run.
 
 use bench::generate::{
-    any_retimable, largest, longest_chain, parities, slowest_accepted, slowest_infeasible, text_of, thinned, trunk,
-    Random,
+    alike_starts, any_broad, any_retimable, broad, largest, longest_chain, parities, slowest_accepted,
+    slowest_infeasible, text_of, thinned, trunk, Random, MOST_BRANCHES,
 };
+use bench::rails;
 use bench::reference::{self, Answer, Netlist, Place, Refusal};
 use bench::retiming::{self, Figures};
 use bench::NODES;
@@ -46,6 +47,7 @@ fn main() {
     println!("{:<44} {:>11} {:>13} {:>13} {:>8}", "job", "nodes,edges", "ours, µs", "Rust, µs", "ratio");
     reading_and_running();
     retiming_and_quoting();
+    counting_rails();
 }
 
 fn reading_and_running() {
@@ -152,5 +154,27 @@ fn quote(job: &str, net: &Netlist) {
         || rust_given = retiming::quote(&text, &mut rust_figures),
     );
     assert!(given.is_ok() && given == rust_given && figures == rust_figures);
+    row(job, &size_of(net), times, 1);
+}
+
+fn counting_rails() {
+    let mut rng = Random::new(3);
+    let net = largest(&mut rng, 1);
+    count("rails, the largest", &alike_starts(&mut rng, net));
+    // each shares the nearest 31 registers with all others, so each is compared to the last register
+    let last_apart: Vec<(u8, u32)> = (0..MOST_BRANCHES as u32).map(|i| (32, 0x1234_5678 ^ i % 2)).collect();
+    count("rails, 950 branches of 32 that end apart", &broad(&last_apart));
+    count("rails, 950 branches of 32, random", &any_broad(&mut rng, MOST_BRANCHES));
+}
+
+/// The rails of one text counted by both: a total, and equal tables.
+fn count(job: &str, net: &Netlist) {
+    let text = text_of(net);
+    let mut table = [0; NODES];
+    let mut rust_table = table;
+    let (mut given, mut rust_given) = (Ok(0), Ok(0));
+    let times =
+        shortest(|| given = bench::rails(&text, &mut table), || rust_given = rails::rails(&text, &mut rust_table));
+    assert!(given.is_ok() && given == rust_given && table == rust_table);
     row(job, &size_of(net), times, 1);
 }

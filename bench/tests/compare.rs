@@ -2,9 +2,11 @@
 //! bytes and words that must stay), equal machine words.
 
 use bench::generate::{
-    any_cone, any_retimable, any_sound, damage_netlist, damage_text, largest, long_row, longest_chain, mixed, parities,
-    ring, selecting, slowest_accepted, slowest_infeasible, text_of, thinned, trunk, Random,
+    alike_starts, any_broad, any_cone, any_retimable, any_sound, damage_netlist, damage_text, largest, long_row,
+    longest_chain, mixed, parities, ring, selecting, slowest_accepted, slowest_infeasible, text_of, thinned, trunk,
+    Random, MOST_BRANCHES,
 };
+use bench::rails;
 use bench::reference::{self, Answer, Netlist, INPUT, OUTPUT};
 use bench::retiming::{self, Figures};
 use bench::{Machine, Record, EDGES, NODES};
@@ -571,4 +573,131 @@ fn a_quote_is_what_retiming_gives() {
         seen.count(&given);
     }
     seen.show("retiming at the period quoted", &[0, 9, 10, 11]);
+}
+
+// --- Rails ----------------------------------------------------------------------------------------
+
+/// Both calls on one text, into equal tables of any words: equal answers and tables in whole; a refusal leaves the table, and
+/// else only the nodes' words change.
+fn counted_alike(rng: &mut Random, text: &[u8], words: usize) -> Answer<usize> {
+    let mut table: Vec<u32> = (0..words).map(|_| rng.draw() as u32).collect();
+    let old = table.clone();
+    let mut rust_table = table.clone();
+    let given = bench::rails(text, &mut table);
+    let rust = rails::rails(text, &mut rust_table);
+    let shown = String::from_utf8_lossy(text);
+    assert_eq!(given, rust, "{shown}");
+    assert!(table == rust_table, "{shown}");
+    match given {
+        Ok(total) => {
+            let net = reference::read(text).expect("a text that was counted");
+            let (counts, past) = table.split_at(net.nodes.len());
+            assert!(past == &old[net.nodes.len()..]);
+            assert_eq!(counts.iter().map(|&count| count as usize).sum::<usize>(), total);
+            // "The total is at most the plain register total, and equals it when each node has at most one out-edge."
+            let plain: usize = net.edges.iter().map(|edge| usize::from(edge.count)).sum();
+            let mut from: Vec<u16> = net.edges.iter().map(|edge| edge.from).collect();
+            from.sort_unstable();
+            let alone = from.windows(2).all(|two| two[0] != two[1]);
+            assert!(total <= plain && (!alone || total == plain));
+        }
+        Err(_) => assert!(table == old),
+    }
+    given
+}
+
+/// A length of table around what is needed.
+fn words(rng: &mut Random, nodes: usize) -> usize {
+    if rng.one_in(2) {
+        nodes + rng.pick(&[0, 0, 1, 700])
+    } else {
+        room(rng, nodes)
+    }
+}
+
+#[test]
+fn rails_of_sound_texts() {
+    let mut rng = Random::new(17);
+    let mut seen = Seen::default();
+    for turn in 0..10_000 {
+        let net = match turn % 4 {
+            0 => any_retimable(&mut rng, 24),
+            1 => any_sound(&mut rng),
+            _ => {
+                let net = any_sound(&mut rng);
+                alike_starts(&mut rng, net)
+            }
+        };
+        let words = words(&mut rng, net.nodes.len());
+        seen.count(&counted_alike(&mut rng, &text_of(&net), words));
+    }
+    seen.show("rails of sound texts", &[0, 12]);
+}
+
+/// 1 to 7, then 12.
+#[test]
+fn rails_of_damaged_texts() {
+    let mut rng = Random::new(18);
+    let mut seen = Seen::default();
+    for _ in 0..6000 {
+        let (net, text) = any_text(&mut rng);
+        let words = words(&mut rng, net.nodes.len());
+        seen.count(&counted_alike(&mut rng, &text, words));
+    }
+    seen.show("rails of damaged texts", &[0, 1, 2, 3, 4, 5, 6, 7, 12]);
+}
+
+/// Each table that is too short, up to one that is just enough, and some longer ones.
+#[test]
+fn rails_into_every_length() {
+    let mut rng = Random::new(19);
+    for _ in 0..60 {
+        let net = any_sound(&mut rng);
+        let net = alike_starts(&mut rng, net);
+        let (text, nodes) = (text_of(&net), net.nodes.len());
+        for words in 0..=nodes + 3 {
+            let given = counted_alike(&mut rng, &text, words);
+            assert_eq!(given == Err(whole(12)), words < nodes);
+        }
+    }
+}
+
+/// 512 nodes and 1,024 edges; one node with up to 950 branches of 32 registers.
+#[test]
+fn rails_of_large_texts() {
+    let mut rng = Random::new(20);
+    let mut seen = Seen::default();
+    for turn in 0..400 {
+        let net = match turn % 4 {
+            0 => largest(&mut rng, 1),
+            1 => {
+                let net = largest(&mut rng, 1);
+                alike_starts(&mut rng, net)
+            }
+            2 => any_large(&mut rng),
+            _ => {
+                let branches = rng.pick(&[1, 2, 437, 438, 511, 512, 600, MOST_BRANCHES]);
+                any_broad(&mut rng, branches.min(MOST_BRANCHES))
+            }
+        };
+        let words = rng.pick(&[0, net.nodes.len() - 1, net.nodes.len(), net.nodes.len() + 1, 512, 1024]);
+        seen.count(&counted_alike(&mut rng, &text_of(&net), words));
+    }
+    seen.show("rails of large texts", &[0, 12]);
+}
+
+/// "A retimed text can be counted like any other."
+#[test]
+fn rails_of_retimed_texts() {
+    let mut rng = Random::new(21);
+    let mut moved = 0;
+    while moved < 1000 {
+        let net = any_retimable(&mut rng, 24);
+        let text = text_of(&net);
+        let mut new = vec![0; text.len()];
+        if bench::retime(&text, &mut new, &mut [0; NODES]).is_ok() && new != text {
+            moved += 1;
+            assert!(counted_alike(&mut rng, &new, net.nodes.len()).is_ok());
+        }
+    }
 }

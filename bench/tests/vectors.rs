@@ -1,6 +1,7 @@
-//! The Rust implementation on the gate's own vectors: crates/batch, made by tests/make_vectors.py. Retiming and quotes also
-//! through the exported calls.
+//! The Rust implementation on the gate's own vectors: crates/batch, made by tests/make_vectors.py. Retiming, quotes
+//! and rails also through the exported calls.
 
+use bench::rails;
 use bench::reference::{read, run, write, Answer};
 use bench::retiming::{self, Figures};
 use std::path::Path;
@@ -32,6 +33,7 @@ fn first(given: &[u8]) -> (Job<'_>, &[u8]) {
 
 type Retime = fn(&[u8], &mut [u8], &mut [i32]) -> Answer<usize>;
 type Quote = fn(&[u8], &mut Figures) -> Answer<usize>;
+type Rails = fn(&[u8], &mut [u32]) -> Answer<usize>;
 
 fn reread(text: &[u8]) -> Answer<Vec<u8>> {
     let mut out = vec![0; text.len()];
@@ -67,8 +69,19 @@ fn quoted(text: &[u8], quote: Quote) -> Answer<Vec<u8>> {
     Ok(format!("09{period:04X}{registers:08X}{largest:08X}{number:08X}\n").into_bytes())
 }
 
-/// All jobs in turn, those that retime by `retime` and those that quote by `quote`.
-fn batch(retime: Retime, quote: Quote) {
+/// A frame `0A`: total (4); then for each node a frame `0B`: node (2), its rails (4).
+fn counted(text: &[u8], words: usize, rails: Rails) -> Answer<Vec<u8>> {
+    let mut table = vec![0; words];
+    let mut lines = format!("0A{:08X}\n", rails(text, &mut table)?);
+    let nodes = read(text).expect("a text that was counted").nodes.len();
+    for (v, count) in table[..nodes].iter().enumerate() {
+        lines += &format!("0B{v:04X}{count:08X}\n");
+    }
+    Ok(lines.into_bytes())
+}
+
+/// All jobs in turn, those that retime by `retime`, those that quote by `quote`, and those that count rails by `rails`.
+fn batch(retime: Retime, quote: Quote, rails: Rails) {
     let (given, wanted) = (file("stdin"), file("stdout"));
     let (mut given, mut wanted, mut jobs) = (&given[..], &wanted[..], 0);
     while !given.is_empty() {
@@ -78,6 +91,7 @@ fn batch(retime: Retime, quote: Quote) {
             "07" => listing(job.text, retime),
             "08" => outputs(job.text, job.vectors, job.room),
             "09" => quoted(job.text, quote),
+            "0A" => counted(job.text, job.room, rails),
             kind => panic!("job {jobs} is of kind {kind}"),
         };
         let printed = answer.unwrap_or_else(|refusal| format!("{refusal}\n").into_bytes());
@@ -91,10 +105,10 @@ fn batch(retime: Retime, quote: Quote) {
 
 #[test]
 fn batch_by_the_export() {
-    batch(bench::retime, bench::quote);
+    batch(bench::retime, bench::quote, bench::rails);
 }
 
 #[test]
 fn batch_by_rust() {
-    batch(retiming::retime, retiming::quote);
+    batch(retiming::retime, retiming::quote, rails::rails);
 }

@@ -253,6 +253,45 @@ static void quoting(void) {
     CHECK(all(&figures, 0x5A, sizeof figures));
 }
 
+static int words_are(const uint32_t *table, size_t words, const uint32_t *wanted) {
+    return memcmp(table, wanted, words * sizeof *table) == 0;
+}
+
+/* "A second chip lets branches of one node share registers." */
+static void counting_rails(void) {
+    uint32_t table[8];
+    memset(table, 0x5A, sizeof table);
+    CHECK(refused(retimer_rails(bytes(""), 0, table, 8), 1, RETIMER_LINE, 1));
+    CHECK(refused(retimer_rails(bytes(CARD_A), strlen(CARD_A) - 1, table, 0), 1, RETIMER_LINE, 8));
+    CHECK(refused(retimer_rails(bytes(CARD_D), strlen(CARD_D), table, 0), 12, RETIMER_WHOLE, 0));
+    CHECK(refused(retimer_rails(bytes(CARD_D), strlen(CARD_D), table, 4), 12, RETIMER_WHOLE, 0));
+    CHECK(all(table, 0x5A, sizeof table));
+
+    /* the second buffer of card D feeds two registers with different values; words past the nodes stay */
+    CHECK(retimer_rails(bytes(CARD_D), strlen(CARD_D), table, 8) == 2);
+    CHECK(words_are(table, 8, (uint32_t[8]){0, 0, 2, 0, 0, 0x5A5A5A5A, 0x5A5A5A5A, 0x5A5A5A5A}));
+    CHECK(retimer_rails(bytes(CARD_A), strlen(CARD_A), table, 4) == 2);
+    CHECK(words_are(table, 8, (uint32_t[8]){1, 0, 1, 0, 0, 0x5A5A5A5A, 0x5A5A5A5A, 0x5A5A5A5A}));
+
+    /* two branches of an input, of 32 registers, which differ at bit 0 alone, the farthest; at bit 31 alone, the nearest */
+    static const char *const branches[3] = {"2000000001", "2080000000", "1F00000000"};
+    static const uint64_t totals[3] = {33, 64, 32};
+    for (int i = 0; i < 3; i++) {
+        char text[256];
+        int len = sprintf(text, "0100016400030002\n020000\n020100\n020100\n03000000012000000000\n0300000002%s\n", branches[i]);
+        memset(table, 0x5A, sizeof table);
+        CHECK(retimer_rails(bytes(text), (size_t)len, table, 3) == totals[i]);
+        CHECK(words_are(table, 4, (uint32_t[4]){(uint32_t)totals[i], 0, 0, 0x5A5A5A5A}));
+    }
+
+    /* a retimed text, like any other */
+    char moved[sizeof CARD_A];
+    int32_t lags[4];
+    CHECK(retimer_retime(bytes(CARD_A), strlen(CARD_A), (uint8_t *)moved, strlen(CARD_A), lags, 4) == 0);
+    CHECK(retimer_rails(bytes(moved), strlen(CARD_A), table, 4) == 2);
+    CHECK(words_are(table, 4, (uint32_t[4]){0, 1, 1, 0}));
+}
+
 int main(void) {
     reading();
     checking_and_writing();
@@ -261,6 +300,7 @@ int main(void) {
     retiming();
     selecting();
     quoting();
+    counting_rails();
     if (failures == 0) {
         puts("all as document 01 says");
     }

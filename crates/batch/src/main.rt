@@ -1,12 +1,13 @@
 // Does many jobs from standard input, and prints for each what it comes to.
 //
-// Before each job stands a frame: kind (1), the text's length in bytes (2), the number of vector bytes (2), the length of the buffer to run into (2). Then
-// the text and the vector bytes follow as they are. The kind says what is printed; the last two numbers matter to runs alone.
+// Before each job stands a frame: kind (1), the text's length in bytes (2), the number of vector bytes (2), the length of the buffer to run into in bytes or
+// of the table to count into in words, 1,024 at most (2). Then the text and the vector bytes follow as they are. The kind says what is printed.
 //
 //   00    what `reread` prints of the text
 //   07    what `listing` prints of it
 //   08    the outputs of the text run on the vectors, a digit 0 or 1 each, and a line feed; or the line of the refusal
 //   09    the text's quote: `09`, period (2), register total (4), largest count (4), number of values to choose (4); or the line of the refusal
+//   0A    the text's rails: `0A`, total (4), and for each node a line `0B`, node (2), its rails (4); or the line of the refusal
 //
 // All ends with the input, at a line that is no such frame, or after 65,536 jobs. A text or vectors that the input cuts short are taken as they stand.
 #![tactic(auto)]
@@ -17,6 +18,9 @@ ghost use Rattle.std.specs.Prelude.{◌<◌};
 const STDIN: i32 = 0;
 
 const STDOUT: i32 = 1;
+
+// The longest table to count into.
+const MOST_WORDS: usize = 1024;
 
 // The number of two bytes, high byte first.
 fn pair(high: u8, low: u8) -> usize
@@ -38,6 +42,10 @@ fn kind_of(line: &[u8]) -> u8 {
     let quote = frame::frame_at(line, 0, 9, 6);
     if quote.ok {
         return 9;
+    }
+    let rails = frame::frame_at(line, 0, 10, 6);
+    if rails.ok {
+        return 10;
     }
     0
 }
@@ -66,6 +74,18 @@ fn print_quote(text: &[u8]) {
     io::write_all(STDOUT, &out[..n]);
 }
 
+fn print_rails(text: &[u8], words: usize) {
+    let mut table = [0u32; MOST_WORDS];
+    let k = if words < MOST_WORDS {
+        words
+    } else {
+        MOST_WORDS
+    };
+    let mut out = io::large_buffer();
+    let n = printing::put_rails(text, &mut table[..k], &mut out);
+    io::write_all(STDOUT, &out[..n]);
+}
+
 // A text and vectors as long as these buffers, taken from the input; what is printed of the job.
 fn take_job(kind: u8, text: &mut [u8], vectors: &mut [u8], ran: &mut [u8]) {
     let n = io::read_full(STDIN, text);
@@ -74,11 +94,12 @@ fn take_job(kind: u8, text: &mut [u8], vectors: &mut [u8], ran: &mut [u8]) {
         7 => print_listing(&text[..n]),
         8 => print_run(&text[..n], &vectors[..m], ran),
         9 => print_quote(&text[..n]),
+        10 => print_rails(&text[..n], ran.len()),
         _ => print_reread(&text[..n]),
     }
 }
 
-// The same, of a text of `n` bytes and `m` vector bytes, run into a buffer of `k`.
+// The same, of a text of `n` bytes and `m` vector bytes, run into a buffer of `k` or counted into a table of as many words.
 fn job(kind: u8, n: usize, m: usize, k: usize)
     requires { (n < 65536) × (m < 65536) × (k < 65536) }
 {

@@ -6,6 +6,8 @@ pub mod Digits
 pub mod Runs
 -- A quote, by cases.
 pub mod Quoted
+-- A text's rails, by cases.
+pub mod Shared
 -- Lags as numbers of two bytes, and their lines.
 pub mod Lines
 -- Long texts: more-decides-nothing.

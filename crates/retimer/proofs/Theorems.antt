@@ -13,10 +13,11 @@ use Rattle.netlist.proofs.theorems.One.{one-reading, one-writing}
 use Rattle.simulate.proofs.theorems.One.{one-run, one-step}
 use Rattle.retime.proofs.theorems.Outcome.{one-outcome}
 use Rattle.quote.proofs.theorems.Outcome.{one-quote}
+use Rattle.rails.proofs.theorems.Total.{one-rails}
 use Rattle.retimer.specs.declared.Figures.{Figures}
 use Rattle.retimer.specs.Code.{code}
 use Rattle.retimer.specs.Calls.{put_back}
-use Rattle.retimer.specs.Theorems.{OneMeaning, OneReadCall, OneCheckCall, OneWriteCall, OneStepCall, OneRunCall, OneRetimeCall, OneRereadCall, OneQuoteCall}
+use Rattle.retimer.specs.Theorems.{OneMeaning, OneReadCall, OneCheckCall, OneWriteCall, OneStepCall, OneRunCall, OneRetimeCall, OneRereadCall, OneQuoteCall, OneRailsCall}
 
 -- ── A number stands for one answer ──────────────────────────────────────────────────────────
 
@@ -88,3 +89,8 @@ pub one-quote-call : OneQuoteCall
 one-quote-call t f r r' new new' (s, (found, quotes, put), coded) (s', (found', quotes', put'), coded') =
     let (e, a, b, c) = one-quote t s s' found.registers found.largest found.number found'.registers found'.largest found'.number quotes quotes' in
     (coded_alike e coded coded', put ∙ ap₂ (λ x y. put_back x y f) e (figures-alike found found' a b c) ∙ sym put')
+
+pub one-rails-call : OneRailsCall
+one-rails-call t table r r' new new' (s, w, coded) (s', w', coded') =
+    let e = one-rails t table s s' new new' w w' in
+    (coded_alike e.0 coded coded', e.1)

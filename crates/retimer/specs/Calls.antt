@@ -7,6 +7,7 @@
 --   RetimeCall t out lags r out' lags'     a text retimed
 --   RereadCall t out r out'                a text read and written again
 --   QuoteCall t f r f'                     a text quoted into the lent figures
+--   RailsCall t table r table'             a text's rails counted into the lent table
 -- Each fixes r and all that is left: specs/Theorems.
 use Rattle.std.specs.Prelude.{◌≡◌, List, ℕ, ℤ}
 use Rattle.netlist.specs.declared.Netlist.{Netlist}
@@ -19,6 +20,7 @@ use Rattle.simulate.specs.Run.{Runs}
 use Rattle.retime.specs.Retime.{Retimes}
 use Rattle.retime.specs.Demand.{Demand3}
 use Rattle.quote.specs.Quote.{Quotes}
+use Rattle.rails.specs.Rails.{Rails}
 use Rattle.retimer.specs.declared.Figures.{Figures}
 use Rattle.retimer.specs.Code.{Coded}
 
@@ -52,3 +54,6 @@ RereadCall t out r out' = Coded (λ s. Rewrites t out s out') r
 
 abbrev pub QuoteCall : List ℕ → Figures → ℕ → Figures → Type 0
 QuoteCall t f r f' = Coded (λ s. (found : Figures) × Quotes t s found.registers found.largest found.number × (f' ≡ put_back s found f)) r
+
+abbrev pub RailsCall : (t table : List ℕ) → ℕ → List ℕ → Type 0
+RailsCall t table r table' = Coded (λ s. Rails t table s table') r

@@ -7,7 +7,7 @@ use Rattle.netlist.specs.Answer.{Said, value, refused}
 use Rattle.simulate.specs.declared.Machine.{Machine}
 use Rattle.retimer.specs.declared.Figures.{Figures}
 use Rattle.retimer.specs.Code.{code}
-use Rattle.retimer.specs.Calls.{ReadCall, CheckCall, WriteCall, StepCall, RunCall, RetimeCall, RereadCall, QuoteCall}
+use Rattle.retimer.specs.Calls.{ReadCall, CheckCall, WriteCall, StepCall, RunCall, RetimeCall, RereadCall, QuoteCall, RailsCall}
 
 -- A number of bytes, or "number (1), place kind (1), place (2)".
 abbrev pub Small : Said → Type 0
@@ -42,3 +42,6 @@ OneRereadCall = (t out : List ℕ) (r r' : ℕ) (new new' : List ℕ) → Reread
 
 abbrev pub OneQuoteCall : Type 0
 OneQuoteCall = (t : List ℕ) (f : Figures) (r r' : ℕ) (new new' : Figures) → QuoteCall t f r new → QuoteCall t f r' new' → (r ≡ r') × (new ≡ new')
+
+abbrev pub OneRailsCall : Type 0
+OneRailsCall = (t table : List ℕ) (r r' : ℕ) (new new' : List ℕ) → RailsCall t table r new → RailsCall t table r' new' → (r ≡ r') × (new ≡ new')

@@ -4,7 +4,7 @@
 // that takes it by value, and puts back what comes of it: it decides nothing itself.
 #![tactic(auto)]
 
-ghost use Rattle.retimer.specs.Calls.{ReadCall, CheckCall, WriteCall, StepCall, RunCall, RetimeCall, RereadCall, QuoteCall};
+ghost use Rattle.retimer.specs.Calls.{ReadCall, CheckCall, WriteCall, StepCall, RunCall, RetimeCall, RereadCall, QuoteCall, RailsCall};
 
 mod coded;
 
@@ -97,4 +97,13 @@ pub extern "C" fn retimer_quote(text: &[u8], figures: &mut Figures) -> u64
     let r = quote_coded(text, *figures);
     *figures = r.figures;
     r.code
+}
+
+// A text's rails: each node's into the table, the number is their total; a refusal leaves the table as it was.
+#[unsafe(no_mangle)]
+pub extern "C" fn retimer_rails(text: &[u8], table: &mut [u32]) -> u64
+    ensures { RailsCall text.now table.old result table.new }
+{
+    let a = rails::rails(text, table);
+    answer_code(a)
 }

@@ -1,0 +1,28 @@
+-- `printing::sharing::put_nodes` meets its contract.
+use Rattle.std.proofs.Common.{rules, ap, ap₂, ◌∙◌, arith, ◌≡◌, ◌+◌, ◌*◌}
+use Rattle.std.proofs.lemmas.List.Edits.{sets}
+use Rattle.frame.specs.Frame.{line_of, placed}
+use Rattle.netlist.specs.Write.{joined}
+use Rattle.netlist.proofs.Written.{put-more}
+use Rattle.printing.specs.Shared.{railLine}
+use Rattle.printing.proofs.Shared.{rail-length}
+use Rattle.printing.proofs.sharing.put_nodes.Goals as goal
+
+pub loop-v-init : goal.loop-v-init
+unfolding joined
+loop-v-init c = search rules
+
+pub loop-v-preserved : goal.loop-v-preserved
+loop-v-preserved c =
+    let here = c.loop-v in
+    let a = c.args in (
+      omega arith,
+      c.put_line.ensures
+          ∙ ap₂ (λ l bytes. placed l (11 + 15 * here.v) (line_of bytes)) here.invariant.1 c.rail_bytes-b.ensures
+          ∙ put-more (railLine a.table.now) 15 (rail-length a.table.now) a.out.now 11 here.v (omega arith),
+    )
+
+pub returns : goal.returns
+returns c =
+    let e : c.loop-v.v ≡ c.args.nodes = omega arith in
+    c.loop-v.invariant.1 ∙ ap (λ n. sets c.args.out.now 11 (joined (railLine c.args.table.now) n)) e

@@ -1,0 +1,2 @@
+-- What functions promise each other. Nobody has to believe it.
+pub mod Shared
