@@ -20,6 +20,7 @@ import rails_cases as rails
 import reading_cases as reading
 import retiming_cases as retiming
 import running_cases as running
+import walking_cases as walking
 from netlists import CARDS
 from reference import frame_line, reread, text_of
 from retiming import listing
@@ -40,7 +41,7 @@ def listing_run() -> tuple[bytes, bytes]:
 
 
 def batch_run() -> tuple[bytes, bytes]:
-    """The program batch: texts to read and write again, then texts to list, then runs, quotes and rails."""
+    """The program batch: texts to read and write again, then texts to list, then runs, quotes, rails and walks."""
     given, printed = [], []
     for name, cases in reading.reading_cases(SEED).items():
         given += [job(0, case.text) for case in cases]
@@ -57,6 +58,9 @@ def batch_run() -> tuple[bytes, bytes]:
     for name, cases in rails.rails_cases(SEED).items():
         given += [job(10, case.text, room=len(case.table)) for case in cases]
         printed += told("rails", name, [rails.expected(case) for case in cases])
+    for name, cases in walking.walking_cases(SEED).items():
+        given += [job(12, case.text) for case in cases]
+        printed += told("walk", name, [walking.expected(case) for case in cases])
     return b"".join(given), b"".join(printed)
 
 

@@ -8,6 +8,7 @@ A refusal is raised; whatever is returned was not refused.
   Netlist, Node, Edge     the record: its head, its nodes, its edges
   Refusal                 a number and a place of "Noes, by their cause"
   read, write             text to record and back
+  read_lines              the same by the rules 1 to 4 alone
   gate_value, trace       what each node gives at each clock
   run, step               a list of vectors from the start values; one clock on machine words
   reread                  what the program of that name prints
@@ -226,11 +227,17 @@ def check_wiring(net: Netlist) -> None:
 
 
 def read(text: bytes) -> Netlist:
-    """The netlist of a text.
+    """The netlist of a text. "Lines in turn, 1 before 2 to 4 on a line; then 5, 6, 7." """
+    net = read_lines(text)
+    check_wiring(net)
+    return net
 
-    "Lines in turn, 1 before 2 to 4 on a line; then 5, 6, 7." What stands after the last line feed
-    is no line: a line that is wanted there is missing, and where none is wanted it is surplus.
-    Either way it is rule 1 at that line.
+
+def read_lines(text: bytes) -> Netlist:
+    """The netlist of a text whose lines keep the rules 1 to 4.
+
+    What stands after the last line feed is no line: a line that is wanted there is missing, and
+    where none is wanted it is surplus. Either way it is rule 1 at that line.
     """
     *lines, unended = text.split(b"\n")
 
@@ -258,10 +265,7 @@ def read(text: bytes) -> Netlist:
 
     if len(lines) >= surplus or unended:
         raise Refusal(1, LINE, surplus)
-
-    net = Netlist(period, derate, nodes, edges)
-    check_wiring(net)
-    return net
+    return Netlist(period, derate, nodes, edges)
 
 
 def check_record(net: Netlist) -> None:

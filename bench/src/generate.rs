@@ -561,6 +561,16 @@ pub fn long_row(rng: &mut Random) -> Netlist {
     with_starts(rng, net)
 }
 
+/// Buffers in a row, nodes and edges in reverse order: the output is node 0 and the input the last, and each edge stands before
+/// the one that leads up to it.
+pub fn reversed_row(gates: usize) -> Netlist {
+    let mut kinds = vec![BUFFER; gates + 2];
+    kinds[0] = OUTPUT;
+    kinds[gates + 1] = INPUT;
+    let edges = (0..=gates).map(|v| edge(v + 1, v, 0)).collect();
+    drawn(1, &kinds, edges)
+}
+
 /// A loop in which every gate sees the one before it twice, with registers on its last edges and 1,024 edges at most. The edges
 /// stand in the worst order for whoever sweeps over them back and forth: every second one of the loop, then the others, so
 /// that a sweep gets along a chain by one gate.

@@ -1,7 +1,7 @@
 //! Times the proved calls and the Rust ones side by side, in one run.
 
 use bench::generate::{
-    alike_starts, any_broad, any_retimable, broad, largest, longest_chain, parities, slowest_accepted,
+    alike_starts, any_broad, any_retimable, broad, largest, longest_chain, parities, reversed_row, slowest_accepted,
     slowest_infeasible, text_of, thinned, trunk, Random, MOST_BRANCHES,
 };
 use bench::rails;
@@ -55,15 +55,7 @@ fn reading_and_running() {
     for part in [1, 2] {
         let net = largest(&mut rng, part);
         let text = text_of(&net);
-        let mut out = vec![0; text.len()];
-        let mut rust_out = out.clone();
-        let rust_reread = |out: &mut [u8]| -> Answer<usize> { reference::write(&reference::read(&text)?, out) };
-        let times = shortest(
-            || (0..REREADS).for_each(|_| assert_eq!(bench::reread(&text, &mut out), Ok(text.len()))),
-            || (0..REREADS).for_each(|_| assert_eq!(rust_reread(&mut rust_out), Ok(text.len()))),
-        );
-        assert!(out == text && rust_out == text);
-        row("read and write, a text", &size_of(&net), times, REREADS as usize);
+        reread("read and write, a text", &net);
 
         let inputs = net.nodes.iter().filter(|node| node.kind == reference::INPUT).count();
         let outputs = net.nodes.iter().filter(|node| node.kind == reference::OUTPUT).count();
@@ -77,6 +69,21 @@ fn reading_and_running() {
         assert!(out == rust_out);
         row("run 100,000 clocks, each", &size_of(&net), times, CLOCKS);
     }
+    reread("read and write, a chain in reverse order", &reversed_row(510));
+}
+
+/// One text read and written by both.
+fn reread(job: &str, net: &Netlist) {
+    let text = text_of(net);
+    let mut out = vec![0; text.len()];
+    let mut rust_out = out.clone();
+    let rust_reread = |out: &mut [u8]| -> Answer<usize> { reference::write(&reference::read(&text)?, out) };
+    let times = shortest(
+        || (0..REREADS).for_each(|_| assert_eq!(bench::reread(&text, &mut out), Ok(text.len()))),
+        || (0..REREADS).for_each(|_| assert_eq!(rust_reread(&mut rust_out), Ok(text.len()))),
+    );
+    assert!(out == text && rust_out == text);
+    row(job, &size_of(net), times, REREADS as usize);
 }
 
 fn retiming_and_quoting() {

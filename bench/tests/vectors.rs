@@ -2,7 +2,7 @@
 //! and rails also through the exported calls.
 
 use bench::rails;
-use bench::reference::{read, run, write, Answer};
+use bench::reference::{read, read_lines, run, write, Answer, INPUT};
 use bench::retiming::{self, Figures};
 use std::path::Path;
 
@@ -80,6 +80,22 @@ fn counted(text: &[u8], words: usize, rails: Rails) -> Answer<Vec<u8>> {
     Ok(lines.into_bytes())
 }
 
+/// The walk from the inputs: a line of marks before the first pass, and after each up to one that marks nothing.
+fn walked(text: &[u8]) -> Answer<Vec<u8>> {
+    let net = read_lines(text)?;
+    let mut before = vec![false; net.nodes.len()];
+    let mut marked: Vec<bool> = net.nodes.iter().map(|node| node.kind == INPUT).collect();
+    let mut out = Vec::new();
+    loop {
+        out.extend(marked.iter().map(|&mark| b'0' + u8::from(mark)).chain([b'\n']));
+        if before == marked {
+            return Ok(out);
+        }
+        before.clone_from(&marked);
+        net.edges.iter().filter(|e| before[usize::from(e.from)]).for_each(|e| marked[usize::from(e.to)] = true);
+    }
+}
+
 /// All jobs in turn, those that retime by `retime`, those that quote by `quote`, and those that count rails by `rails`.
 fn batch(retime: Retime, quote: Quote, rails: Rails) {
     let (given, wanted) = (file("stdin"), file("stdout"));
@@ -92,6 +108,7 @@ fn batch(retime: Retime, quote: Quote, rails: Rails) {
             "08" => outputs(job.text, job.vectors, job.room),
             "09" => quoted(job.text, quote),
             "0A" => counted(job.text, job.room, rails),
+            "0C" => walked(job.text),
             kind => panic!("job {jobs} is of kind {kind}"),
         };
         let printed = answer.unwrap_or_else(|refusal| format!("{refusal}\n").into_bytes());

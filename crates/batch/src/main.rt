@@ -8,11 +8,15 @@
 //   08    the outputs of the text run on the vectors, a digit 0 or 1 each, and a line feed; or the line of the refusal
 //   09    the text's quote: `09`, period (2), register total (4), largest count (4), number of values to choose (4); or the line of the refusal
 //   0A    the text's rails: `0A`, total (4), and for each node a line `0B`, node (2), its rails (4); or the line of the refusal
+//   0C    which nodes are marked in the walk from the inputs, before the first pass and after each up to one that marks nothing: a line each, with a digit
+//         0 or 1 for each node; or the line of the refusal (1 to 4: the walk goes over a netlist that 5, 6 or 7 is said of too)
 //
 // All ends with the input, at a line that is no such frame, or after 65,536 jobs. A text or vectors that the input cuts short are taken as they stand.
 #![tactic(auto)]
 
 ghost use Rattle.std.specs.Prelude.{◌<◌};
+
+use netlist::{Answer, Place, Walked};
 
 // File descriptors.
 const STDIN: i32 = 0;
@@ -46,6 +50,10 @@ fn kind_of(line: &[u8]) -> u8 {
     let rails = frame::frame_at(line, 0, 10, 6);
     if rails.ok {
         return 10;
+    }
+    let walk = frame::frame_at(line, 0, 12, 6);
+    if walk.ok {
+        return 12;
     }
     0
 }
@@ -86,6 +94,43 @@ fn print_rails(text: &[u8], words: usize) {
     io::write_all(STDOUT, &out[..n]);
 }
 
+// The marks of so many nodes.
+fn print_marks(marks: &[u8], nodes: usize) {
+    let mut out = io::large_buffer();
+    let n = printing::put_bits(marks, nodes, &mut out);
+    io::write_all(STDOUT, &out[..n]);
+}
+
+fn print_refusal(q: u8, p: Place) {
+    let mut out = io::large_buffer();
+    let n = printing::put_refusal(q, p, &mut out);
+    io::write_all(STDOUT, &out[..n]);
+}
+
+// What is printed of a walk that stopped after a pass, and whether that was the last: then it marked nothing. So it is with a refusal.
+fn print_walked(walked: Walked) -> bool {
+    let layer = walked.layer;
+    match walked.answer {
+        Answer::Done(nodes) => print_marks(&layer.marks, nodes),
+        Answer::Refused(q, p) => print_refusal(q, p),
+    }
+    layer.hi <= layer.lo
+}
+
+// No more passes are made than there are nodes.
+const WALKS: usize = 513;
+
+fn print_walk(text: &[u8]) {
+    let mut passes = 0;
+    while passes < WALKS {
+        let last = print_walked(netlist::walk(text, passes));
+        if last {
+            return;
+        }
+        passes += 1;
+    }
+}
+
 // A text and vectors as long as these buffers, taken from the input; what is printed of the job.
 fn take_job(kind: u8, text: &mut [u8], vectors: &mut [u8], ran: &mut [u8]) {
     let n = io::read_full(STDIN, text);
@@ -95,6 +140,7 @@ fn take_job(kind: u8, text: &mut [u8], vectors: &mut [u8], ran: &mut [u8]) {
         8 => print_run(&text[..n], &vectors[..m], ran),
         9 => print_quote(&text[..n]),
         10 => print_rails(&text[..n], ran.len()),
+        12 => print_walk(&text[..n]),
         _ => print_reread(&text[..n]),
     }
 }

@@ -19,7 +19,8 @@ use Rattle.theory.specs.inner.Arrival.{Arrival}
 use Rattle.theory.proofs.walks.Loops.{long-loop, rank-no-loop}
 use Rattle.theory.proofs.walks.Walks.{walk_start}
 use Rattle.graph.specs.Columns.{at, columnGraph}
-use Rattle.graph.specs.inner.Laid.{From, Told, Laid}
+use Rattle.graph.specs.Layers.{Told}
+use Rattle.graph.specs.inner.Laid.{From, Laid}
 use Rattle.graph.specs.inner.Marks.{Above, mark_of}
 
 -- What the columns promise is what walks ask.

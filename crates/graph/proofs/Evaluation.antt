@@ -16,7 +16,7 @@ use Rattle.theory.specs.Walk.{Walk, one, more, registers, walkSteps, Loop}
 use Rattle.theory.proofs.walks.Walks.{walk_start}
 use Rattle.theory.proofs.walks.Loops.{Bare, bare-one, bare-more, long-loop}
 use Rattle.graph.specs.Columns.{at, columnGraph}
-use Rattle.graph.specs.inner.Laid.{Told}
+use Rattle.graph.specs.Layers.{Told}
 use Rattle.graph.specs.inner.Sort.{Ordered}
 use Rattle.graph.specs.inner.Order.{Going, Found}
 use Rattle.graph.proofs.Answers.{laid-wired}

@@ -1,27 +1,34 @@
 -- Reach in passes.
 --   marked-has, has-marked, mark-tells     a mark that tells of a property, and back
 --   within-pin, within_none    a pin is reached over no edge, and nothing else is
---   within-later        over n edges at most, so over n + 1 at most
+--   within-later, within-more    over n edges at most, so over n + 1 at most, and over any number above n
 --   within-edge         one edge further
 --   within-split        reached over n + 1 edges at most: over n at most, or by a last edge from a node that is
 --   first-after         the pins are what is marked before the first pass
+--   within?             it can be told
 --   pass-leaves         a pass marks what is reached over one edge more
+--   after-pass          so the layer after it is one after so many passes
 --   reached-told        where a pass marked nothing, all that is reached is marked
-use Prim.Native.Nat.{ℕ, ◌+◌, ◌≤◌, ◌<◌}
+--   layer-from          what a walk leaves
+--   settled-told        the same of any layer that a walk leaves where fewer passes were made than asked for
+use Prim.Native.Nat.{ℕ, zero, suc, ◌+◌, ◌≤◌, ◌<◌}
 use native.Mathlib.Omega.{arith}
 use native.Mathlib.Decide.{ℕ_discrete, dec_lt}
 use mathlib.Core.Path.{◌≡◌, refl, sym, subst, ap, ◌∙◌}
 use mathlib.Core.Logic.{◌⊎◌, inl, inr, ⊎_elim}
 use mathlib.Core.List.{List}
 use borrow.Author.Tests.{eq-eqb, ne_eqb}
+use borrow.Author.Count.{below_more}
 use lib.Dec.{eqb}
-use Rattle.theory.specs.Graph.{Graph}
+use Rattle.theory.specs.Graph.{Graph, Wired}
 use Rattle.theory.specs.Walk.{Walk, one, more, walkSteps}
+use Rattle.theory.proofs.numbers.Find.{any}
 use Rattle.graph.specs.declared.layers.Layer.{Layer}
 use Rattle.graph.specs.Columns.{at, columnGraph}
-use Rattle.graph.specs.inner.Laid.{From, Told, Laid}
+use Rattle.graph.specs.Layers.{Told, FromWithin, Layered, NewAt, LayerFrom}
+use Rattle.graph.specs.inner.Laid.{From, Laid}
 use Rattle.graph.specs.inner.Sort.{Stands}
-use Rattle.graph.specs.inner.Layers.{Within, Layered, Spread, Steady, AfterPasses, PassLeaves}
+use Rattle.graph.specs.inner.Layers.{Spread, Steady, AfterPasses, PassLeaves}
 use Rattle.graph.proofs.Spread.{queued-stands, PinBelow, Fed}
 
 -- ── Marks ───────────────────────────────────────────────────────────────────────────────────
@@ -47,11 +54,11 @@ module _ {x : ℕ} {P : Type 0} where
 -- ── Walks of so many edges ──────────────────────────────────────────────────────────────────
 
 module _ {G : Graph} {pin : ℕ} where
-  pub within-pin : {n v : ℕ} → v < G.nodes → G.kind v ≡ pin → Within G pin n v
+  pub within-pin : {n v : ℕ} → v < G.nodes → G.kind v ≡ pin → FromWithin G pin n v
   unfolding walkSteps
   within-pin {n} {v} h q = record { start = v; kind = q; walk = one h; few = omega arith }
 
-  pub within_none : {v : ℕ} → Within G pin 0 v → G.kind v ≡ pin
+  pub within_none : {v : ℕ} → FromWithin G pin 0 v → G.kind v ≡ pin
   unfolding walkSteps
   within_none w = go w.walk w.kind w.few
     where
@@ -59,22 +66,58 @@ module _ {G : Graph} {pin : ℕ} where
       go (one h) q l = q
       go (more e h p) q l = absurd (let z : ⊥ = omega arith in z)
 
-  pub within-later : {n v : ℕ} → Within G pin n v → Within G pin (n + 1) v
+  pub within-later : {n v : ℕ} → FromWithin G pin n v → FromWithin G pin (n + 1) v
   within-later w = record { start = w.start; kind = w.kind; walk = w.walk; few = omega (arith, w.few) }
 
-  pub within-edge : {n : ℕ} (e : ℕ) → e < G.edges → Within G pin n (G.src e) → Within G pin (n + 1) (G.dst e)
+  pub within-more : {n m v : ℕ} → n ≤ m → FromWithin G pin n v → FromWithin G pin m v
+  within-more l w = record { start = w.start; kind = w.kind; walk = w.walk; few = omega (arith, w.few) }
+
+  pub within-edge : {n : ℕ} (e : ℕ) → e < G.edges → FromWithin G pin n (G.src e) → FromWithin G pin (n + 1) (G.dst e)
   unfolding walkSteps
   within-edge e h w = record { start = w.start; kind = w.kind; walk = more e h w.walk; few = omega (arith, w.few) }
 
   -- The walk's last edge is taken off.
-  pub within-split : {n v : ℕ} → Within G pin (n + 1) v → Within G pin n v ⊎ ((e : ℕ) × (e < G.edges) × (G.dst e ≡ v) × Within G pin n (G.src e))
+  pub within-split : {n v : ℕ} → FromWithin G pin (n + 1) v → FromWithin G pin n v ⊎ ((e : ℕ) × (e < G.edges) × (G.dst e ≡ v) × FromWithin G pin n (G.src e))
   unfolding walkSteps
   within-split {n} w = go w.walk w.kind w.few
     where
       go : {u v : ℕ} (p : Walk G u v) → G.kind u ≡ pin → walkSteps p ≤ n + 1
-          → Within G pin n v ⊎ ((e : ℕ) × (e < G.edges) × (G.dst e ≡ v) × Within G pin n (G.src e))
+          → FromWithin G pin n v ⊎ ((e : ℕ) × (e < G.edges) × (G.dst e ≡ v) × FromWithin G pin n (G.src e))
       go {u} (one h) q l = inl (record { start = u; kind = q; walk = one h; few = omega arith })
       go {u} (more e h p) q l = inr (e, h, refl, record { start = u; kind = q; walk = p; few = omega arith })
+
+-- The last edge of a walk over n + 1 edges is looked for among all edges.
+pub within? : {G : Graph} → Wired G → (pin n v : ℕ) → v < G.nodes → Dec (FromWithin G pin n v)
+within? {G} i pin zero v h = go (ℕ_discrete (G.kind v) pin)
+  where
+    go : Dec (G.kind v ≡ pin) → Dec (FromWithin G pin 0 v)
+    go (yes q) = yes (within-pin h q)
+    go (no q) = no (λ w. q (within_none w))
+within? {G} i pin (suc n) v h = go (λ u l. within? i pin n u l) (within? i pin n v h)
+  where
+    Last : ℕ → Type 0
+    Last e = (G.dst e ≡ v) × FromWithin G pin n (G.src e)
+
+    last? : ((u : ℕ) → u < G.nodes → Dec (FromWithin G pin n u)) → (e : ℕ) → e < G.edges → Dec (Last e)
+    last? d e l = by-end (ℕ_discrete (G.dst e) v)
+      where
+        by-start : G.dst e ≡ v → Dec (FromWithin G pin n (G.src e)) → Dec (Last e)
+        by-start q (yes w) = yes (q, w)
+        by-start q (no w) = no (λ x. w x.1)
+
+        by-end : Dec (G.dst e ≡ v) → Dec (Last e)
+        by-end (yes q) = by-start q (d (G.src e) (i.src-in e l))
+        by-end (no q) = no (λ x. q x.0)
+
+    one-more : FromWithin G pin (suc n) v → FromWithin G pin (n + 1) v
+    one-more = within-more (omega arith)
+
+    go : ((u : ℕ) → u < G.nodes → Dec (FromWithin G pin n u)) → Dec (FromWithin G pin n v) → Dec (FromWithin G pin (suc n) v)
+    go d (yes w) = yes (within-more (omega arith) w)
+    go d (no w) = ⊎_elim
+        (λ x. yes (subst (FromWithin G pin (suc n)) x.2.0 (within-more (omega arith) (within-edge x.0 x.1 x.2.1))))
+        (λ none. no (λ y. ⊎_elim w (λ x. none x.0 x.1 (x.2, x.3)) (within-split (one-more y))))
+        (any G.edges (last? d))
 
 -- ── Before the first pass ───────────────────────────────────────────────────────────────────
 
@@ -91,6 +134,9 @@ first-after bare s edges from to = record {
   layered = λ v h. mark-tells
       (λ e. ⊎_elim (λ y. absurd (let z : ⊥ = omega (arith, bare v h) in z)) (λ x. within-pin h x.1) (s.only v h e))
       (λ w. s.fed v h (h, within_none w));
+  going = λ n l. absurd (let z : ⊥ = omega arith in z);
+  early = λ i l. absurd (let z : ⊥ = omega arith in z);
+  late = λ i m k l o w. absurd (let z : ⊥ = omega arith in z);
 }
 
 -- ── A pass ──────────────────────────────────────────────────────────────────────────────────
@@ -111,13 +157,13 @@ module _ {nodes edges : ℕ} {from to : List ℕ} (f : Laid nodes edges from to)
       → Layered (columnGraph nodes edges kind from to) pin (before.passes + 1) marks
   layered kind pin w v h = mark-tells (λ e. ⊎_elim (λ y. within-later (marked-has (w v h) y)) by-edge (s.only v h e)) back
     where
-      by-edge : Fed edges from to before.queue before.lo before.hi v → Within (columnGraph nodes edges kind from to) pin (before.passes + 1) v
+      by-edge : Fed edges from to before.queue before.lo before.hi v → FromWithin (columnGraph nodes edges kind from to) pin (before.passes + 1) v
       by-edge x =
           let u : at before.marks (at from x.edge) ≡ 1 = ap (at before.marks) (sym x.leaves) ∙ b.queued.listed.marked x.place x.below in
-          subst (Within (columnGraph nodes edges kind from to) pin (before.passes + 1)) x.enters
+          subst (FromWithin (columnGraph nodes edges kind from to) pin (before.passes + 1)) x.enters
           (within-edge x.edge x.inside (marked-has (w (at from x.edge) (f.from_in x.edge x.inside)) u))
 
-      back : Within (columnGraph nodes edges kind from to) pin (before.passes + 1) v → at marks v ≡ 1
+      back : FromWithin (columnGraph nodes edges kind from to) pin (before.passes + 1) v → at marks v ≡ 1
       back r = ⊎_elim
           (λ y. s.stay v h (has-marked (w v h) y))
           (λ x. let l = f.from_in x.0 x.1 in
@@ -136,7 +182,35 @@ module _ {nodes edges : ℕ} {from to : List ℕ} (f : Laid nodes edges from to)
       past = λ e h t. end_marked e h (record { place = t.place; within = t.within; holds = sym (s.front t.place t.within) ∙ t.holds });
     };
     layered = layered;
+    early = λ i j. ap (at before.marks) (s.front i j) ∙ b.queued.listed.marked i j;
+    late = λ i j k e.
+        let t = queued-stands b.queued (s.queued.listed.nodes-only i k) e in
+        s.queued.listed.once t.place i (omega (arith, t.within)) k (s.front t.place t.within ∙ t.holds);
   }
+
+-- The node at place lo was marked by the last pass and by none before it, so one more pass that marked something is counted.
+pub after-pass : {nodes edges pin : ℕ} {kind from to : List ℕ} (before after : Layer) → AfterPasses nodes edges kind pin from to before → before.lo < before.hi
+    → PassLeaves nodes edges from to before after → AfterPasses nodes edges kind pin from to after
+after-pass {nodes} {edges} {pin} {kind} {from} {to} before after a l p = record {
+  steady = p.steady;
+  layered = p.layered kind pin a.layered;
+  going = λ n k. below_more (NewAt G pin) before.passes a.going new n (omega (arith, p.passes));
+  early = λ i k. (before.passes, omega (arith, p.passes), marked-has (a.layered (at after.queue i) (there i (omega (arith, p.steady.low)))) (p.early i k));
+  late = λ i m j k o w.
+      p.late i j k (has-marked (a.layered (at after.queue i) (there i k)) (within-more (omega (arith, p.passes)) w));
+}
+  where
+    G : Graph
+    G = columnGraph nodes edges kind from to
+
+    there : (i : ℕ) → i < after.hi → at after.queue i < nodes
+    there = p.steady.queued.listed.nodes-only
+
+    new : NewAt G pin before.passes
+    new =
+        let q = a.steady.queued.listed in
+        let h = q.nodes-only before.lo l in
+        record { node = at before.queue before.lo; there = h; reached = marked-has (a.layered _ h) (q.marked before.lo l); first = λ m k. a.late before.lo m (omega arith) l k }
 
 -- ── After the last pass ─────────────────────────────────────────────────────────────────────
 
@@ -153,3 +227,46 @@ module _ {nodes edges pin : ℕ} {kind from to : List ℕ} (f : Laid nodes edges
   reached-told v h = mark-tells {P = From (columnGraph nodes edges kind from to) pin v}
       (λ e. let w = marked-has (a.layered v h) e in record { start = w.start; kind = w.kind; walk = w.walk })
       (λ r. walk-marked r.walk r.kind)
+
+-- ── A walk ──────────────────────────────────────────────────────────────────────────────────
+
+module _ {nodes edges pin most : ℕ} {kind from to : List ℕ} (last : Layer) (a : AfterPasses nodes edges kind pin from to last) where
+  -- A node that the last pass marked first would stand at a place from lo on.
+  pub layer-from : last.passes ≤ most → (last.passes < most → last.hi ≤ last.lo) → LayerFrom (columnGraph nodes edges kind from to) pin most last
+  layer-from few ended = record {
+    few = few;
+    layered = a.layered;
+    bits = λ v h. bit v h (ℕ_discrete (at last.marks v) 0);
+    going = a.going;
+    ended = λ l x.
+        let t = queued-stands a.steady.queued x.there (has-marked (a.layered x.node x.there) x.reached) in
+        let e = a.early t.place (omega (arith, t.within, ended l)) in
+        x.first e.0 e.1 (subst (FromWithin (columnGraph nodes edges kind from to) pin e.0) t.holds e.2);
+  }
+    where
+      bit : (v : ℕ) → v < nodes → Dec (at last.marks v ≡ 0) → at last.marks v ≤ 1
+      bit v h (yes z) = omega arith
+      bit v h (no z) =
+          let t = a.steady.queued.listed.stands v h z in
+          let e : at last.marks v ≡ 1 = ap (at last.marks) (sym t.holds) ∙ a.steady.queued.listed.marked t.place t.within in
+          omega arith
+
+-- Where pass n marks nothing, every node that is reached is reached over n edges at most: along a walk, a node that is reached over n and over no fewer
+-- would be new at n, so the next is reached over n too.
+module _ {G : Graph} (i : Wired G) {pin n : ℕ} (none : ¬ NewAt G pin n) where
+  settled-within : {u v : ℕ} → Walk G u v → G.kind u ≡ pin → FromWithin G pin n v
+  settled-within (one h) q = within-pin h q
+  settled-within (more e h p) q = next n none (settled-within p q)
+    where
+      next : (m : ℕ) → ¬ NewAt G pin m → FromWithin G pin m (G.src e) → FromWithin G pin m (G.dst e)
+      next zero x w = absurd (x (record { node = G.src e; there = i.src-in e h; reached = w; first = λ k l. absurd (let z : ⊥ = omega arith in z) }))
+      next (suc m) x w = go (within? i pin m (G.src e) (i.src-in e h))
+        where
+          go : Dec (FromWithin G pin m (G.src e)) → FromWithin G pin (suc m) (G.dst e)
+          go (yes y) = within-more (omega arith) (within-edge e h y)
+          go (no y) = absurd (x (record { node = G.src e; there = i.src-in e h; reached = w; first = λ k l z. y (within-more (omega arith) z) }))
+
+  pub settled-told : (marks : List ℕ) → Layered G pin n marks → (v : ℕ) → v < G.nodes → Told (eqb (at marks v) 1) (From G pin v)
+  settled-told marks a v h = mark-tells {P = From G pin v}
+      (λ e. let w = marked-has (a v h) e in record { start = w.start; kind = w.kind; walk = w.walk })
+      (λ r. has-marked (a v h) (settled-within r.walk r.kind))

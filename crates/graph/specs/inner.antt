@@ -5,7 +5,7 @@ pub mod Sort
 -- Lists that loops fill.
 pub mod Lists
 pub mod Laid
--- Reach in passes.
+-- Passes over a queue.
 pub mod Layers
 -- The evaluation order, node by node.
 pub mod Order

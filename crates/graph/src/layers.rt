@@ -3,7 +3,8 @@
 // Required: columns that are long enough, ends of edges that are nodes. Reading makes sure of both.
 ghost use Rattle.std.specs.Prelude.{◌≡◌, List, ℕ, ◌≤◌, ◌<◌, eqb, length};
 ghost use Rattle.graph.specs.Columns.{at, columnGraph};
-ghost use Rattle.graph.specs.inner.Laid.{From, Told, Laid};
+ghost use Rattle.graph.specs.Layers.{Told};
+ghost use Rattle.graph.specs.inner.Laid.{From, Laid};
 ghost use Rattle.graph.specs.inner.Layers.{Queued, EndOf, EndsIn, Spread, Links, Steady, AfterPasses, PassLeaves};
 
 use crate::sort::sort_by;
@@ -118,23 +119,26 @@ pub fn pass<'a>(
     }
 }
 
-// Passes up to one that marks nothing. What holds after each of them, holds after the last.
-pub fn layers<'a>(
+// Passes up to one that marks nothing, `most` of them at most. What holds after each of them, holds after the last.
+pub fn walk<'a>(
     kind: &'a [u8],
     pin: u8,
     from: &'a [u16],
     to: &'a [u16],
     nodes: usize,
     edges: usize,
+    most: usize,
 ) -> Layer
     requires { Laid nodes edges from.now to.now × (nodes ≤ length kind.now) }
-    ensures { AfterPasses nodes edges kind.now pin from.now to.now result × (result.hi ≤ result.lo) }
+    ensures after { AfterPasses nodes edges kind.now pin from.now to.now result }
+    ensures few { result.passes ≤ most }
+    ensures ended { result.passes < most → result.hi ≤ result.lo }
 {
     let mut links = [0u16; EDGES];
     let mut begin = [0u16; NODES + 1];
     sort_by(from, edges, nodes, &mut links, &mut begin);
     let mut layer = first_layer(kind, pin, nodes);
-    while layer.lo < layer.hi {
+    while layer.lo < layer.hi && layer.passes < most {
         layer = pass(layer, from, to, &links, &begin, nodes, edges);
     }
     layer
@@ -152,6 +156,6 @@ pub fn reached<'a>(
     requires { Laid nodes edges from.now to.now × (nodes ≤ length kind.now) }
     ensures { (v : ℕ) → v < nodes → Told (eqb (at result v) 1) (From (columnGraph nodes edges kind.now from.now to.now) pin v) }
 {
-    let last = layers(kind, pin, from, to, nodes, edges);
+    let last = walk(kind, pin, from, to, nodes, edges, nodes + 1);
     last.marks
 }

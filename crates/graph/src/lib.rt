@@ -9,7 +9,7 @@ mod reach;
 mod sort;
 
 pub use along::edges_along;
-pub use layers::reached;
+pub use layers::{Layer, reached, walk};
 pub use order::{evaluation_order, looped};
 pub use reach::{any_above, fan_ins};
 pub use sort::sort_by;

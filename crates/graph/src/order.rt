@@ -5,7 +5,8 @@
 ghost use Rattle.std.specs.Prelude.{◌≡◌, List, ℕ, ◌+◌, ◌≤◌, ◌<◌, length};
 ghost use Rattle.theory.specs.Walk.{Loop};
 ghost use Rattle.graph.specs.Columns.{at, columnGraph};
-ghost use Rattle.graph.specs.inner.Laid.{Laid, Told};
+ghost use Rattle.graph.specs.Layers.{Told};
+ghost use Rattle.graph.specs.inner.Laid.{Laid};
 ghost use Rattle.graph.specs.inner.Sort.{Ordered};
 ghost use Rattle.graph.specs.inner.Order.{Wires, Readable, Waits, Tried, Stage, FirstTried, Taking, Taken, Going, AllTaken, Found};
 

@@ -2,7 +2,8 @@
 // Required: columns that are long enough, ends of edges that are nodes. Reading makes sure of both.
 ghost use Rattle.std.specs.Prelude.{◌≡◌, List, ℕ, ◌≤◌, ◌<◌, length};
 ghost use Rattle.graph.specs.Columns.{at, columnGraph, fan-in};
-ghost use Rattle.graph.specs.inner.Laid.{Told, Laid};
+ghost use Rattle.graph.specs.Layers.{Told};
+ghost use Rattle.graph.specs.inner.Laid.{Laid};
 ghost use Rattle.graph.specs.inner.Marks.{Above};
 
 use crate::NODES;

@@ -25,7 +25,7 @@ use Rattle.theory.proofs.labels.Stop.{After, start, round, after-near, after-fit
 use Rattle.theory.proofs.labels.Arrival.{time-late, times-round, times-no-late-pin, times_none}
 use Rattle.theory.proofs.labels.Answer.{ready, answer-least, answer-pin, answer-rounds}
 use Rattle.graph.specs.Columns.{at}
-use Rattle.graph.specs.inner.Laid.{Told}
+use Rattle.graph.specs.Layers.{Told}
 use Rattle.graph.specs.inner.Marks.{Above}
 use Rattle.netlist.specs.declared.Netlist.{Netlist}
 use Rattle.netlist.specs.Net.{graph_of, regs_of, delayOf}

@@ -1,7 +1,7 @@
 // Rounds: every late node's label goes up by one, until none is late, or a pin is, or there were as many rounds as nodes.
 // Private to the crate: `least` hands on a netlist that reads, and its edges by node.
 ghost use Rattle.std.specs.Prelude.{◌≤◌, length};
-ghost use Rattle.graph.specs.inner.Laid.{Told};
+ghost use Rattle.graph.specs.Layers.{Told};
 ghost use Rattle.lags.specs.inner.Lags.{Leasts};
 ghost use Rattle.lags.specs.inner.Wires.{Basis};
 ghost use Rattle.lags.specs.inner.Rounds.{Low, LatePin, Lifted};

@@ -18,7 +18,8 @@ use Rattle.theory.proofs.walks.Walks.{walk_end}
 use Rattle.theory.specs.inner.Arrival.{Reached, Arrival}
 use Rattle.theory.proofs.least.Times.{arrival-times}
 use Rattle.graph.specs.Columns.{at, fan-in}
-use Rattle.graph.specs.inner.Laid.{reverse, From, Told}
+use Rattle.graph.specs.Layers.{Told}
+use Rattle.graph.specs.inner.Laid.{reverse, From}
 use Rattle.graph.specs.inner.Marks.{mark_of}
 use Rattle.graph.proofs.Answers.{loop-told, from_told}
 use Rattle.graph.proofs.Laws.{from-input, input-from, to-output, output-from}

@@ -16,7 +16,8 @@ use lib.ListN.{length}
 use Rattle.frame.specs.Frame.{within}
 use Rattle.theory.specs.Graph.{Graph, Wired}
 use Rattle.graph.specs.Columns.{at, fan-in}
-use Rattle.graph.specs.inner.Laid.{reverse, From, Told, Laid}
+use Rattle.graph.specs.Layers.{Told}
+use Rattle.graph.specs.inner.Laid.{reverse, From, Laid}
 use Rattle.graph.proofs.Laws.{from-input, input-from, to-output, output-from}
 use Rattle.netlist.specs.declared.Netlist.{Netlist}
 use Rattle.netlist.specs.Net.{graph_of}

@@ -18,3 +18,5 @@ pub mod Halves
 pub mod RoundTrip
 -- A record has a writing, and is written exactly where it keeps the rules: some-writing, sound-written.
 pub mod Writing
+-- The walk from the inputs: some-walk, one-walk, walk-begins, walk-ends.
+pub mod Walk

@@ -13,8 +13,13 @@
 --   RoundTripText, RoundTripNetlist        demand 2
 --   NearestEven, HalfCards                 a working delay is the nearest whole number, the even one of two; the examples
 --   RecordRowsUnread                       rows past the netlist's are read by nothing
-use Rattle.std.specs.Prelude.{◌≡◌, Bool, true, false, ◌↔◌, List, [], ◌++◌, ℕ, ◌+◌, ◌*◌, ◌%◌, ◌<◌, ◌≤◌, length, get_or, take, drop}
+--   SomeWalk, OneWalk                      every text has a walk of so many passes, and its marks are determined
+--   WalkBegins, WalkEnds                   what is marked before the first pass, and where a pass marked nothing
+use Rattle.std.specs.Prelude.{◌≡◌, Bool, true, false, ◌↔◌, List, [], ◌++◌, ℕ, ◌+◌, ◌*◌, ◌%◌, ◌<◌, ◌≤◌, eqb, length, get_or, take, drop}
 use Rattle.frame.specs.Frame.{bad, frame_at, line, number_at}
+use Rattle.theory.specs.Walk.{FromInput}
+use Rattle.graph.specs.declared.layers.Layer.{Layer}
+use Rattle.graph.specs.Layers.{Told}
 use Rattle.netlist.specs.declared.Netlist.{Netlist}
 use Rattle.netlist.specs.Answer.{Said, value, whole, atNode, atLine}
 use Rattle.netlist.specs.Net.{rounded, working, graph_of}
@@ -22,6 +27,7 @@ use Rattle.netlist.specs.Circuit.{LoopIn, SoundIn}
 use Rattle.rules.specs.Rules.{headFits, nodeFits, edgeFits}
 use Rattle.netlist.specs.Read.{fault, lines, lines_of, Judged, Reads, AllInReach, FanInsFit, OutOfReach, WrongFanIn}
 use Rattle.netlist.specs.Write.{headLine, nodeLine, edgeLine, joined, text_of, Writes}
+use Rattle.netlist.specs.Walk.{Walks}
 
 -- ── No answer is free ───────────────────────────────────────────────────────────────────────
 
@@ -199,3 +205,23 @@ RoundTripNetlist = (net : Netlist) (old new : List ℕ) (n : ℕ) → Typed net 
 -- "record rows past them are read by nothing".
 abbrev pub RecordRowsUnread : Type 0
 RecordRowsUnread = (net net' : Netlist) → Same net net' → (old : List ℕ) (s : Said) (new : List ℕ) → Writes net old s new → Writes net' old s new
+
+-- ── The walk from the inputs ────────────────────────────────────────────────────────────────
+
+abbrev pub SomeWalk : Type 0
+SomeWalk = (t : List ℕ) (most : ℕ) → (s : Said) × (layer : Layer) × Walks t most s layer
+
+-- One answer, one number of passes, and the same mark of each node.
+abbrev pub OneWalk : Type 0
+OneWalk = (t : List ℕ) (most : ℕ) (s s' : Said) (layer layer' : Layer) → Walks t most s layer → Walks t most s' layer'
+    → (s ≡ s') × (layer.passes ≡ layer'.passes) × ((n v : ℕ) → s ≡ value n → v < n → get_or layer.marks v 0 ≡ get_or layer'.marks v 0)
+
+-- "before the first just the inputs are marked"
+abbrev pub WalkBegins : Type 0
+WalkBegins = (t : List ℕ) (net : Netlist) (most : ℕ) (s : Said) (layer : Layer) → lines_of t ≡ lines net → Walks t most s layer → layer.passes ≡ 0
+    → (v : ℕ) → v < net.nodes → Told (eqb (get_or layer.marks v 0) 1) (get_or net.kind v 0 ≡ 0)
+
+-- Where fewer passes were made than were asked for, all that an input reaches is marked: what rule 7 asks, and what any more passes would mark.
+abbrev pub WalkEnds : Type 0
+WalkEnds = (t : List ℕ) (net : Netlist) (most : ℕ) (s : Said) (layer : Layer) → lines_of t ≡ lines net → Walks t most s layer → layer.passes < most
+    → (v : ℕ) → v < net.nodes → Told (eqb (get_or layer.marks v 0) 1) (FromInput (graph_of net) v)

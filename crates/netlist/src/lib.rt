@@ -1,17 +1,19 @@
-// Netlists: the record, answers, reading and writing. The promises are in specs/: Read, Write, Theorems.
+// Netlists: the record, answers, reading and writing. The promises are in specs/: Read, Write, Walk, Theorems.
 #![tactic(auto)]
 
-use graph::{EDGES, NODES};
+use graph::{EDGES, Layer, NODES};
 
 mod checking;
 mod judging;
 mod lines;
 mod rewriting;
+mod walking;
 mod writing;
 
 pub use checking::check;
 pub use lines::read;
 pub use rewriting::rewrite;
+pub use walking::walk;
 pub use writing::{put_text, write};
 
 // "A netlist is its head, its N nodes and its E edges; record rows past them are read by nothing, and reading makes them 0."
@@ -50,4 +52,11 @@ pub enum Answer {
 pub struct Reading {
     pub answer: Answer,
     pub net: Netlist,
+}
+
+// A walk's number, and which nodes are marked. The promise is in specs/Walk.
+#[derive(Clone, Copy)]
+pub struct Walked {
+    pub answer: Answer,
+    pub layer: Layer,
 }

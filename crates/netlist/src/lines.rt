@@ -179,7 +179,7 @@ fn read_edges(table: &[u8], text: &[u8], at0: usize, net0: Netlist) -> Filled
 }
 
 // Rules 1 to 4: all lines, and nothing after them.
-fn read_lines(table: &[u8], text: &[u8]) -> Reading
+pub fn read_lines(table: &[u8], text: &[u8]) -> Reading
     requires { Digits table.now }
     ensures { Lined text.now result.answer result.net }
 {

@@ -1,14 +1,20 @@
 -- Bits written as digits.
 --   digits_more, digits-end    one more, and the line feed behind the last
 --   length_digits       how long the line is
-use Prim.Native.Nat.{ℕ, ◌+◌, ◌≤◌, ◌<◌}
+--   bits-none, bits-put the line of the first bits of a list, where there is no room for it, and where there is
+use Prim.Native.Nat.{ℕ, ◌+◌, ◌≤◌, ◌<◌, min}
 use native.Mathlib.Omega.{arith}
 use native.Mathlib.Numerals.{add-one}
+use native.Mathlib.Decide.{dec_le}
 use mathlib.Core.Path.{◌≡◌, refl, sym, ap, ◌∙◌}
 use mathlib.Core.List.{List, [], ◌∷◌, ◌++◌, map}
+use borrow.Author.Tests.{le-leb, lt-leb}
 use lib.ListN.{length, take, set, get_or, length-append, length-map}
-use lib.Seq.{sets, take-suc, length-take-le}
+use lib.Seq.{sets, take-suc, take_all, length-take-le}
 use Rattle.theory.proofs.numbers.Stores.{sets-sets}
+use Rattle.frame.specs.Frame.{placed}
+use Rattle.frame.proofs.Buffers.{placed-room, placed-full}
+use Rattle.printing.specs.Shown.{lineIn}
 use Rattle.printing.specs.Printed.{bitDigit, digitLine}
 
 map-append : (xs ys : List ℕ) → map bitDigit (xs ++ ys) ≡ map bitDigit xs ++ map bitDigit ys
@@ -31,3 +37,29 @@ module _ (bits old : List ℕ) where
   pub length_digits : (n : ℕ) → n ≤ length bits → length (digitLine (take n bits)) ≡ n + 1
   unfolding digitLine
   length_digits n h = length-append (map bitDigit (take n bits)) (10 ∷ []) ∙ omega (arith, digits_long n h)
+
+module _ (bits out : List ℕ) (n m : ℕ) (e : m ≡ min n (length bits)) where
+  first-bits : take m bits ≡ take n bits
+  first-bits = go (dec_le n (length bits))
+    where
+      go : Dec (n ≤ length bits) → take m bits ≡ take n bits
+      go (yes h) = ap (λ i. take i bits) (let q : m ≡ n = omega arith in q)
+      go (no h) = take_all m bits (omega arith) ∙ sym (take_all n bits (omega arith))
+
+  long : length (digitLine (take n bits)) ≡ m + 1
+  long = ap (λ l. length (digitLine l)) (sym first-bits) ∙ length_digits bits out m (omega arith)
+
+  pub bits-none : length out ≤ m → (out ≡ placed out 0 (digitLine (take n bits))) × (0 ≡ lineIn (digitLine (take n bits)) out)
+  bits-none h =
+      let l = long in (
+        sym (placed-full out 0 (digitLine (take n bits)) (omega arith)),
+        rw (lt-leb (length (digitLine (take n bits))) (length out) (omega arith)),
+      )
+
+  pub bits-put : m < length out → (new : List ℕ) → new ≡ sets out 0 (digitLine (take m bits))
+      → (new ≡ placed out 0 (digitLine (take n bits))) × (m + 1 ≡ lineIn (digitLine (take n bits)) out)
+  bits-put h new b =
+      let l = long in (
+        b ∙ ap (λ x. sets out 0 (digitLine x)) first-bits ∙ sym (placed-room out 0 (digitLine (take n bits)) (omega arith)),
+        rw (le-leb (length (digitLine (take n bits))) (length out) (omega arith)) (sym l),
+      )

@@ -1,4 +1,4 @@
-// What the programs print: of a text read and written again, of a run, of a text retimed, of a quote, of a text's rails, and of a refusal. The promises are in specs/: Shown, Printed, Listed, Quoted, Shared.
+// What the programs print: of a text read and written again, of a run or of marks, of a text retimed, of a quote, of a text's rails, and of a refusal. The promises are in specs/: Shown, Printed, Listed, Quoted, Shared.
 #![tactic(auto)]
 
 mod quoting;
@@ -12,7 +12,7 @@ pub use quoting::put_quote;
 pub use refusals::put_refusal;
 pub use rereading::reread;
 pub use retiming::listing;
-pub use running::put_run;
+pub use running::{put_bits, put_run};
 pub use sharing::put_rails;
 
 // Room for 32,768 bytes and the lines of 512 lags, 11 bytes each.

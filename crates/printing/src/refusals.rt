@@ -1,5 +1,6 @@
 // What is printed of a refusal.
 ghost use Rattle.std.specs.Prelude.{◌≡◌};
+ghost use Rattle.io.specs.Counts.{IsPrefixLen};
 ghost use Rattle.frame.specs.Frame.{placed};
 ghost use Rattle.netlist.specs.Answer.{says};
 ghost use Rattle.netlist.specs.declared.Answer.TheVariants.{Refused};
@@ -36,6 +37,7 @@ fn place_number(p: Place) -> u16
 pub fn put_refusal(q: u8, p: Place, out: &mut [u8]) -> usize
     ensures out_after { out.new ≡ placed out.old 0 (refusalLine (says (Refused q p))) }
     ensures value { result ≡ lineIn (refusalLine (says (Refused q p))) out.old }
+    ensures prefix_len { IsPrefixLen result out.new }
 {
     let place = place_number(p);
     let mut bytes = [0u8; 16];

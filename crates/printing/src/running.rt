@@ -2,6 +2,8 @@
 ghost use Rattle.std.specs.Prelude.{◌≡◌, ◌≤◌, ◌<◌, length, take};
 ghost use Rattle.std.proofs.lemmas.List.Edits.{sets};
 ghost use Rattle.io.specs.Counts.{IsPrefixLen};
+ghost use Rattle.frame.specs.Frame.{placed};
+ghost use Rattle.printing.specs.Shown.{lineIn};
 ghost use Rattle.printing.specs.Printed.{bitDigit, digitLine, PrintsRun};
 
 use crate::refusals::put_refusal;
@@ -25,6 +27,20 @@ fn put_digits(bits: &[u8], n: usize, out: &mut [u8])
         i += 1;
     }
     out[n] = 10;
+}
+
+// The digits of the first `n` of `bits`, or of all where there are fewer, and a line feed, at the front of `out`, where there is room for it; how many bytes that took.
+pub fn put_bits(bits: &[u8], n: usize, out: &mut [u8]) -> usize
+    ensures out_after { out.new ≡ placed out.old 0 (digitLine (take n bits.now)) }
+    ensures value { result ≡ lineIn (digitLine (take n bits.now)) out.old }
+    ensures prefix_len { IsPrefixLen result out.new }
+{
+    let some = if n < bits.len() { n } else { bits.len() };
+    if out.len() <= some {
+        return 0;
+    }
+    put_digits(bits, some, out);
+    some + 1
 }
 
 // A text run on these vectors into `ran`, and what is printed of that at the front of `out`, where there is room for it; how many bytes it took.

@@ -1,9 +1,8 @@
 -- What the functions over columns ask for and find.
 --   reverse G           every edge turned round
 --   From G k v          a walk from a node of kind k to v
---   Told b P            b says whether P holds
 --   Laid                the columns have their rows, and each edge joins two nodes
-use Rattle.std.specs.Prelude.{◌≡◌, Bool, true, false, List, ℕ, ◌<◌, ◌≤◌, length}
+use Rattle.std.specs.Prelude.{◌≡◌, List, ℕ, ◌<◌, ◌≤◌, length}
 use Rattle.theory.specs.Graph.{Graph}
 use Rattle.theory.specs.Walk.{Walk}
 use Rattle.graph.specs.Columns.{at}
@@ -15,10 +14,6 @@ pub record From (G : Graph) (k v : ℕ) : Type 0 where
   pub start : ℕ
   pub kind : G.kind start ≡ k
   pub walk : Walk G start v
-
-abbrev pub Told : Bool → Type 0 → Type 0
-Told true P = P
-Told false P = ¬ P
 
 pub record Laid (nodes edges : ℕ) (from to : List ℕ) : Type 0 where
   pub nodes-fit : nodes ≤ 512

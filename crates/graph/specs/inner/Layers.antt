@@ -1,33 +1,19 @@
--- Reach in passes over a queue: what is marked after each pass, and what the functions promise each other.
---   Within G k n v      a node of kind k reaches v over n edges at most
---   Layered G k n marks the nodes with mark 1 are exactly those
+-- Passes over a queue of the marked nodes: what the functions promise each other.
 --   Queued              the first `held` places of a queue hold the marked nodes, each once
 --   EndOf               v is the end of an edge at one of the places from lo up to hi of `links`
 --   EndsIn              all these ends are nodes
 --   Spread              marks that spread to the nodes of `Fed`, and to no other: these join the queue
 --   Links               the edges sorted by the node that they leave
 --   Steady              a layer between two passes: each edge that leaves a node before place `lo` ends in a marked one
---   AfterPasses         a layer after so many passes as it says
+--   AfterPasses         a layer after so many passes as it says: each but the last marked something; the last marked what stands from place lo on
 --   PassLeaves          what `pass` does
-use Rattle.std.specs.Prelude.{◌≡◌, ◌⊎◌, List, ℕ, ◌+◌, ◌<◌, ◌≤◌, eqb, length}
-use Rattle.theory.specs.Graph.{Graph}
-use Rattle.theory.specs.Walk.{Walk, walkSteps}
+use Rattle.std.specs.Prelude.{◌≡◌, ◌⊎◌, List, ℕ, ◌+◌, ◌<◌, ◌≤◌, length}
 use Rattle.graph.specs.declared.layers.Layer.{Layer}
 use Rattle.graph.specs.Columns.{at, columnGraph}
-use Rattle.graph.specs.inner.Laid.{Told, Laid}
+use Rattle.graph.specs.Layers.{FromWithin, Layered, NewAt}
+use Rattle.graph.specs.inner.Laid.{Laid}
 use Rattle.graph.specs.inner.Sort.{Stands, EdgesBy}
 use Rattle.graph.specs.inner.Lists.{Listed}
-
--- ── Passes ──────────────────────────────────────────────────────────────────────────────────
-
-pub record Within (G : Graph) (k n v : ℕ) : Type 0 where
-  pub start : ℕ
-  pub kind : G.kind start ≡ k
-  pub walk : Walk G start v
-  pub few : walkSteps walk ≤ n
-
-abbrev pub Layered : Graph → ℕ → ℕ → List ℕ → Type 0
-Layered G k n marks = (v : ℕ) → v < G.nodes → Told (eqb (at marks v) 1) (Within G k n v)
 
 -- ── The queue ───────────────────────────────────────────────────────────────────────────────
 
@@ -72,11 +58,16 @@ pub record Steady (nodes edges : ℕ) (from to : List ℕ) (layer : Layer) : Typ
 pub record AfterPasses (nodes edges : ℕ) (kind : List ℕ) (pin : ℕ) (from to : List ℕ) (layer : Layer) : Type 0 where
   pub steady : Steady nodes edges from to layer
   pub layered : Layered (columnGraph nodes edges kind from to) pin layer.passes layer.marks
+  pub going : (n : ℕ) → n < layer.passes → NewAt (columnGraph nodes edges kind from to) pin n
+  pub early : (i : ℕ) → i < layer.lo → (m : ℕ) × (m < layer.passes) × FromWithin (columnGraph nodes edges kind from to) pin m (at layer.queue i)
+  pub late : (i m : ℕ) → layer.lo ≤ i → i < layer.hi → m < layer.passes → ¬ FromWithin (columnGraph nodes edges kind from to) pin m (at layer.queue i)
 
 -- Gate kinds are nothing to a pass: whichever pin the marks spread from, they spread over one edge more.
 pub record PassLeaves (nodes edges : ℕ) (from to : List ℕ) (before after : Layer) : Type 0 where
   pub passes : after.passes ≡ before.passes + 1
   pub goes_on : after.lo ≡ before.hi
   pub steady : Steady nodes edges from to after
+  pub early : (i : ℕ) → i < after.lo → at before.marks (at after.queue i) ≡ 1
+  pub late : (i : ℕ) → after.lo ≤ i → i < after.hi → ¬ (at before.marks (at after.queue i) ≡ 1)
   pub layered : (kind : List ℕ) (pin : ℕ) → Layered (columnGraph nodes edges kind from to) pin before.passes before.marks
       → Layered (columnGraph nodes edges kind from to) pin after.passes after.marks

@@ -2,7 +2,8 @@ use Rattle.std.proofs.Common.{◌≡◌, ℕ, ◌<◌, ◌≤◌, arith, rules}
 use lib.Dec.{eqb}
 use Rattle.theory.specs.Graph.{Graph}
 use Rattle.graph.specs.Columns.{at}
-use Rattle.graph.specs.inner.Laid.{reverse, From, Told}
+use Rattle.graph.specs.Layers.{Told}
+use Rattle.graph.specs.inner.Laid.{reverse, From}
 use Rattle.netlist.specs.declared.Netlist.{Netlist}
 use Rattle.netlist.specs.Net.{graph_of}
 use Rattle.netlist.specs.Read.{InReach, All}
