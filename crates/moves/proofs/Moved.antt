@@ -18,7 +18,7 @@ use Rattle.theory.specs.Retimer.{Sound}
 use Rattle.netlist.specs.declared.Netlist.{Netlist}
 use Rattle.netlist.specs.Answer.{value}
 use Rattle.graph.specs.Columns.{bit}
-use Rattle.netlist.specs.Net.{graph_of, regs_of}
+use Rattle.netlist.specs.Net.{withColumns, graph_of, regs_of}
 use Rattle.rules.specs.Rules.{edgeFits}
 use Rattle.netlist.specs.Read.{Reads, judged}
 use Rattle.netlist.specs.Write.{text_of}
@@ -29,7 +29,7 @@ use Rattle.netlist.proofs.theorems.Lines.{lines-fact}
 use Rattle.netlist.proofs.Judged.{judged-sound}
 use Rattle.netlist.proofs.theorems.Sound.{reads-value, reads-keeps}
 use Rattle.moves.specs.Moved.{word_of, with_regs}
-use Rattle.moves.specs.inner.Columns.{Filled, none, withColumns}
+use Rattle.moves.specs.inner.Columns.{Filled, none}
 use Rattle.moves.proofs.Words.{word_fits, word-bit}
 use Rattle.theory.proofs.numbers.Sums.{sum_same}
 use Rattle.moves.proofs.Rows.{column-length, column-in, column-past, column-is, column-same}

@@ -8,7 +8,7 @@ use Rattle.theory.specs.Gate.{gate}
 use Rattle.theory.specs.Move.{sum}
 use Rattle.theory.specs.Retimer.{retimed}
 use Rattle.netlist.specs.declared.Netlist.{Netlist}
-use Rattle.netlist.specs.Net.{zeros, graph_of, regs_of}
+use Rattle.netlist.specs.Net.{zeros, withColumns, graph_of, regs_of}
 use Rattle.netlist.specs.Write.{joined}
 
 -- n rows by f and 0 past them, in a column of 1,024.
@@ -21,18 +21,7 @@ word_of start count = sum (λ k. start k * 2 ^ k) count
 
 -- "Moved by lags and a choice, a netlist keeps its head, its nodes and the ends of its edges, and each edge gets its new count and new start values."
 abbrev pub with_regs : Netlist → Regs → Netlist
-with_regs net R = record {
-  period = net.period;
-  derate = net.derate;
-  nodes = net.nodes;
-  edges = net.edges;
-  kind = net.kind;
-  delay = net.delay;
-  from = net.from;
-  to = net.to;
-  count = column R.count net.edges;
-  start = column (λ e. word_of (R.start e) (R.count e)) net.edges;
-}
+with_regs net R = withColumns net (column R.count net.edges) (column (λ e. word_of (R.start e) (R.count e)) net.edges)
 
 -- The netlist moved by the lags r and the choice that is the number c.
 unfoldable pub movedNet : Netlist → (ℕ → ℤ) → ℕ → Netlist

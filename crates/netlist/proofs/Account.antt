@@ -20,13 +20,13 @@ use Rattle.netlist.specs.declared.Netlist.{Netlist}
 use Rattle.netlist.specs.Answer.{atLine}
 use Rattle.netlist.specs.Net.{with_head, withNode, withEdge, graph_of}
 use Rattle.rules.specs.Rules.{nodeFits, edgeFits}
-use Rattle.netlist.specs.Read.{Lines, fault, lines, nothingMore, lines_of, nodesFrom, edgesFrom}
+use Rattle.netlist.specs.Read.{lineOfNode, lineOfEdge, Lines, fault, lines, nothingMore, lines_of, nodesFrom, edgesFrom}
 use Rattle.netlist.specs.Write.{nodeLine, edgeLine, joined, text_of}
 use Rattle.netlist.specs.Theorems.{FitTo, Fit, CleanTo, Clean, toNode, toEdge, FaultAt, head-frame, head-range, node-frame, node-rule, edge-frame, edge-rule, surplus}
 use Rattle.netlist.proofs.Rows.{length-zeros, zeros-at, set_past, joined_same}
 use Rattle.netlist.proofs.Fits.{clash}
 use Rattle.netlist.proofs.Run.{fit-rows}
-use Rattle.netlist.proofs.Fields.{headBytes, edgeBytes, four_bytes, nodeBytes, node-bytes}
+use Rattle.netlist.proofs.Fields.{headFields, edgeFields, headBytes, edgeBytes, fields-bytes, nodeBytes, node-bytes}
 
 pub data Account (t : List ℕ) : Lines → Type 0 where
   right : (net : Netlist) → Fit net → Clean net → t ≡ text_of net → Account t (lines net)
@@ -163,21 +163,21 @@ read-line k n t before l bs bs' rest p q h = h ∙ ap (λ x. before ++ x) (frame
 
 -- No edge is left.
 at-end : (t l : List ℕ) (net : Netlist) → Fit net → Clean net → t ≡ toEdge net net.edges ++ l
-    → Account t (nothingMore l (net.nodes + net.edges + 2) net)
+    → Account t (nothingMore l (lineOfEdge net net.edges) net)
 unfolding text_of
 at-end t [] net f c p = right net f c (p ∙ append-nil _)
-at-end t (x ∷ l) net f c p = wrong 1 (net.nodes + net.edges + 2) (surplus net (x ∷ l) f p (λ q. clash (cc)))
+at-end t (x ∷ l) net f c p = wrong 1 (lineOfEdge net net.edges) (surplus net (x ∷ l) f p (λ q. clash (cc)))
 
 -- m edges are left.
 at-edges : (t : List ℕ) (m e : ℕ) (l : List ℕ) (net : Netlist) → m + e ≡ net.edges → FitTo net net.nodes e → CleanTo net net.nodes e → t ≡ toEdge net e ++ l
-    → Account t (edgesFrom m e (net.nodes + e + 2) l net)
+    → Account t (edgesFrom m e (lineOfEdge net e) l net)
 unfolding edgesFrom
 at-edges t zero e l net q f c p =
     let d : e ≡ net.edges = omega arith in
-    subst (λ k. Account t (nothingMore l (net.nodes + k + 2) net)) (sym d)
+    subst (λ k. Account t (nothingMore l (lineOfEdge net k) net)) (sym d)
     (at-end t l net (subst (FitTo net net.nodes) d f) (subst (CleanTo net net.nodes) d c) (p ∙ ap (λ k. toEdge net k ++ l) d))
 at-edges t (suc m) e l net q f c p =
-    turn t l 3 9 4 (net.nodes + e + 2) _ _ (λ a. edge-frame net e l f (omega arith) p a) (λ bs rest a b. edge-rule net e l bs rest f (omega arith) p a b)
+    turn t l 3 9 4 (lineOfEdge net e) _ _ (λ a. edge-frame net e l f (omega arith) p a) (λ bs rest a b. edge-rule net e l bs rest f (omega arith) p a b)
     (λ bs rest a b.
     let u = number_at 0 2 bs in
     let v = number_at 2 2 bs in
@@ -185,29 +185,29 @@ at-edges t (suc m) e l net q f c p =
     let s = number_at 5 4 bs in
     let few : e < net.edges = omega arith in
     let r = frame-rest 3 9 l bs rest a in
-    let n : net.nodes + suc e + 2 ≡ suc (net.nodes + e + 2) = omega arith in
-    let text = read-line 3 9 t (toEdge net e) l bs (edgeBytes u v w s) rest a (four_bytes 2 2 1 4 bs r.0 r.1.0) p in
+    let n : lineOfEdge net (suc e) ≡ suc (lineOfEdge net e) = omega arith in
+    let text = read-line 3 9 t (toEdge net e) l bs (edgeBytes u v w s) rest a (fields-bytes (edgeFields u v w s) bs (sym r.0) r.1.0 (refl, (refl, (refl, (refl, tt))))) p in
     subst (λ k. Account t (edgesFrom m (suc e) k rest (withEdge net e u v w s))) n
     (at-edges t m (suc e) rest (withEdge net e u v w s) (omega arith) (edge-fit net e u v w s f c few b) (edge-clean net e u v w s f c few)
     (text ∙ ap (λ x. x ++ rest) (sym (edge-text net e u v w s f c few)))))
 
 -- m nodes are left, and all edges.
 at-nodes : (t : List ℕ) (m i : ℕ) (l : List ℕ) (net : Netlist) → m + i ≡ net.nodes → FitTo net i 0 → CleanTo net i 0 → t ≡ toNode net i ++ l
-    → Account t (nodesFrom m i (i + 2) l net)
+    → Account t (nodesFrom m i (lineOfNode net i) l net)
 unfolding nodesFrom joined
 at-nodes t zero i l net q f c p =
     let d : i ≡ net.nodes = omega arith in
-    let n : net.nodes + 0 + 2 ≡ i + 2 = omega arith in
+    let n : lineOfEdge net 0 ≡ lineOfNode net i = omega arith in
     subst (λ k. Account t (edgesFrom net.edges 0 k l net)) n
     (at-edges t net.edges 0 l net (omega arith) (subst (λ k. FitTo net k 0) d f) (subst (λ k. CleanTo net k 0) d c)
     (p ∙ ap (λ k. toNode net k ++ l) d ∙ simp append-nil))
 at-nodes t (suc m) i l net q f c p =
-    turn t l 2 2 3 (i + 2) _ _ (λ a. node-frame net i l f (omega arith) p a) (λ bs rest a b. node-rule net i l bs rest f (omega arith) p a b)
+    turn t l 2 2 3 (lineOfNode net i) _ _ (λ a. node-frame net i l f (omega arith) p a) (λ bs rest a b. node-rule net i l bs rest f (omega arith) p a b)
     (λ bs rest a b.
     let k = number_at 0 1 bs in
     let d = number_at 1 1 bs in
     let few : i < net.nodes = omega arith in
-    let n : suc i + 2 ≡ suc (i + 2) = omega arith in
+    let n : lineOfNode net (suc i) ≡ suc (lineOfNode net i) = omega arith in
     let text = read-line 2 2 t (toNode net i) l bs (nodeBytes k d) rest a (node-bytes bs (frame-rest 2 2 l bs rest a).0) p in
     subst (λ k'. Account t (nodesFrom m (suc i) k' rest (withNode net i k d))) n
     (at-nodes t m (suc i) rest (withNode net i k d) (omega arith) (node-fit net i k d f c few b) (node-clean net i k d f c few)
@@ -237,4 +237,4 @@ account t =
     at-nodes t n 0 rest (with_head p d n e) (omega arith)
     (record { head = b; node = λ v l. absurd (omega arith); edge = λ v l. absurd (omega arith) })
     (head-clean p d n e)
-    (read-line 1 7 t [] t bs (headBytes p d n e) rest a (four_bytes 2 1 2 2 bs r.0 r.1.0) refl ∙ simp append-nil))
+    (read-line 1 7 t [] t bs (headBytes p d n e) rest a (fields-bytes (headFields p d n e) bs (sym r.0) r.1.0 (refl, (refl, (refl, (refl, tt))))) refl ∙ simp append-nil))

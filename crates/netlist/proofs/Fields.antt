@@ -1,10 +1,13 @@
--- The three kinds of line: their bytes, and the numbers in them.
---   four                            four numbers, one after the other, of a, b, c and d bytes
---   headBytes, nodeBytes, edgeBytes the bytes of a line after its kind
---   four-numbers, node-numbers      the numbers taken from the bytes of numbers are those numbers
---   four_bytes, node-bytes          bytes are those of the numbers taken from them
---   four-frame, node-frame          a line of such bytes is read
-use Prim.Native.Nat.{ℕ, ◌+◌, ◌^◌, ◌<◌, ◌≤◌}
+-- The kinds of line: their bytes, and the numbers in them.
+--   fieldsFrom, fieldsOf            numbers one after the other, each as so many bytes: behind other bytes, and by themselves
+--   widths, Fitting, Read           how many bytes these are; each number fits its own; what is read there is the numbers
+--   lineSize                        how long a line is
+--   headBytes, edgeBytes, nodeBytes the bytes of a line after its kind
+--   widths-least                    they are no fewer than those so far
+--   fields-read, node-numbers       the numbers taken from the bytes of numbers are those numbers
+--   fields-bytes, node-bytes        bytes are those of the numbers taken from them
+--   fields-frame, node-frame        a line of such bytes is read
+use Prim.Native.Nat.{ℕ, ◌+◌, ◌*◌, ◌^◌, ◌<◌, ◌≤◌}
 use native.Mathlib.Omega.{arith}
 use mathlib.Core.Path.{◌≡◌, refl, sym, ap, ap₂, ◌∙◌}
 use mathlib.Core.List.{List, [], ◌∷◌, ◌++◌, append_assoc, append-nil}
@@ -26,43 +29,93 @@ field-bytes i n bs b h =
     let q : length (take n (drop i bs)) ≡ n = length-take-le n (drop i bs) (simp length-drop (omega arith)) in
     ap (λ k. bytes_of k (number_at i n bs)) (sym q) ∙ bytes-number (take n (drop i bs)) (bytes_take n (drop i bs) (bytes_drop i bs b))
 
+-- How long a line of its kind and n more bytes is: two digits a byte, and the line feed.
+abbrev pub lineSize : ℕ → ℕ
+lineSize n = 2 * n + 3
+
 -- Bytes are read as a frame of their number.
 frame-of : (k n : ℕ) (bs rest : List ℕ) → length bs ≡ n → k < 256 → Bytes bs → frame_at k n (line_of (k ∷ bs) ++ rest) ≡ line bs rest
 frame-of k n bs rest q h b = ap (λ m. frame_at k m (line_of (k ∷ bs) ++ rest)) (sym q) ∙ frame-written k bs rest h b
 
--- ── Four numbers: the head and an edge ──────────────────────────────────────────────────────
+-- ── Numbers one after the other ─────────────────────────────────────────────────────────────
 
-abbrev pub four : ℕ → ℕ → ℕ → ℕ → ℕ → ℕ → ℕ → ℕ → List ℕ
-four a b c d w x y z = bytes_of a w ++ bytes_of b x ++ bytes_of c y ++ bytes_of d z
+-- A field: how many bytes it has, and the number in them.
+abbrev pub Fields : Type 0
+Fields = List (ℕ × ℕ)
 
-abbrev pub headBytes : ℕ → ℕ → ℕ → ℕ → List ℕ
-headBytes = four 2 1 2 2
+abbrev pub fieldsFrom : List ℕ → Fields → List ℕ
+fieldsFrom xs [] = xs
+fieldsFrom xs (f ∷ fs) = fieldsFrom (xs ++ bytes_of f.0 f.1) fs
 
-abbrev pub edgeBytes : ℕ → ℕ → ℕ → ℕ → List ℕ
-edgeBytes = four 2 2 1 4
+abbrev pub fieldsOf : Fields → List ℕ
+fieldsOf fs = fieldsFrom [] fs
 
-module _ (a b c d : ℕ) where
-  module _ (w x y z : ℕ) where
-    pub four-numbers : w < 256 ^ a → x < 256 ^ b → y < 256 ^ c → z < 256 ^ d
-        → (number_at 0 a (four a b c d w x y z) ≡ w) × (number_at a b (four a b c d w x y z) ≡ x)
-        × (number_at (a + b) c (four a b c d w x y z) ≡ y) × (number_at (a + b + c) d (four a b c d w x y z) ≡ z)
-    four-numbers hw hx hy hz = (
-      field 0 a w [] (bytes_of b x ++ bytes_of c y ++ bytes_of d z) (four a b c d w x y z) (simp append_assoc) refl hw,
-      field a b x (bytes_of a w) (bytes_of c y ++ bytes_of d z) (four a b c d w x y z) (simp append_assoc) (length-bytes a w) hx,
-      field (a + b) c y (bytes_of a w ++ bytes_of b x) (bytes_of d z) (four a b c d w x y z) (simp append_assoc) (simp (length-append, length-bytes)) hy,
-      field (a + b + c) d z (bytes_of a w ++ bytes_of b x ++ bytes_of c y) [] (four a b c d w x y z) (simp (append_assoc, append-nil)) (simp (length-append, length-bytes)) hz,
+abbrev pub widths : ℕ → Fields → ℕ
+widths n [] = n
+widths n (f ∷ fs) = widths (n + f.0) fs
+
+abbrev pub Fitting : Fields → Type 0
+Fitting [] = Unit
+Fitting (f ∷ fs) = (f.1 < 256 ^ f.0) × Fitting fs
+
+abbrev pub Read : ℕ → Fields → List ℕ → Type 0
+Read i [] bs = Unit
+Read i (f ∷ fs) bs = (number_at i f.0 bs ≡ f.1) × Read (i + f.0) fs bs
+
+fields-front : (fs : Fields) (xs : List ℕ) → (ys : List ℕ) × (fieldsFrom xs fs ≡ xs ++ ys)
+fields-front [] xs = ([], sym (append-nil xs))
+fields-front (f ∷ fs) xs = let r = fields-front fs (xs ++ bytes_of f.0 f.1) in (bytes_of f.0 f.1 ++ r.0, r.1 ∙ simp append_assoc)
+
+-- By the fields in turn: each stands behind those before it.
+read-from : (fs : Fields) (xs : List ℕ) (i : ℕ) → length xs ≡ i → Fitting fs → Read i fs (fieldsFrom xs fs)
+read-from [] xs i q h = tt
+read-from (f ∷ fs) xs i q h =
+    let r = fields-front fs (xs ++ bytes_of f.0 f.1) in (
+      field i f.0 f.1 xs r.0 (fieldsFrom (xs ++ bytes_of f.0 f.1) fs) (r.1 ∙ simp append_assoc) q h.0,
+      read-from fs (xs ++ bytes_of f.0 f.1) (i + f.0) (simp (length-append, length-bytes) (omega arith)) h.1,
     )
 
-    pub four-frame : (k : ℕ) (rest : List ℕ) → k < 256 → frame_at k (a + b + c + d) (line_of (k ∷ four a b c d w x y z) ++ rest) ≡ line (four a b c d w x y z) rest
-    four-frame k rest h = frame-of k (a + b + c + d) (four a b c d w x y z) rest (simp (length-append, length-bytes)) h
-        (bytes-append _ _ (bytes-append _ _ (bytes-append _ _ (bytes-bytes a w) (bytes-bytes b x)) (bytes-bytes c y)) (bytes-bytes d z))
+pub fields-read : (fs : Fields) → Fitting fs → Read 0 fs (fieldsOf fs)
+fields-read fs h = read-from fs [] 0 refl h
 
-  pub four_bytes : (bs : List ℕ) → length bs ≡ a + b + c + d → Bytes bs
-      → four a b c d (number_at 0 a bs) (number_at a b bs) (number_at (a + b) c bs) (number_at (a + b + c) d bs) ≡ bs
-  four_bytes bs q h =
-      let f : (i n : ℕ) → i + n ≤ a + b + c + d → bytes_of n (number_at i n bs) ≡ take n (drop i bs) = λ i n l. field-bytes i n bs h (omega arith) in
-      rw (f 0 a (omega arith), f a b (omega arith), f (a + b) c (omega arith), f (a + b + c) d (omega arith), ← take-add a b bs, ← take-add (a + b) c bs, ← take-add (a + b + c) d bs)
-      (take_all (a + b + c + d) bs (omega arith))
+pub widths-least : (fs : Fields) (n : ℕ) → n ≤ widths n fs
+widths-least [] n = omega arith
+widths-least (f ∷ fs) n = omega (arith, widths-least fs (n + f.0))
+
+-- What stands so far is the front of the bytes.
+bytes-from : (fs : Fields) (bs : List ℕ) (i : ℕ) → widths i fs ≡ length bs → Bytes bs → Read i fs bs → fieldsFrom (take i bs) fs ≡ bs
+bytes-from [] bs i q b r = take_all i bs (omega arith)
+bytes-from (f ∷ fs) bs i q b r =
+    let e : bytes_of f.0 f.1 ≡ take f.0 (drop i bs) = ap (bytes_of f.0) (sym r.0) ∙ field-bytes i f.0 bs b (omega (arith, widths-least fs (i + f.0))) in
+    ap (λ xs. fieldsFrom xs fs) (ap (λ xs. take i bs ++ xs) e ∙ sym (take-add i f.0 bs)) ∙ bytes-from fs bs (i + f.0) q b r.1
+
+pub fields-bytes : (fs : Fields) (bs : List ℕ) → widths 0 fs ≡ length bs → Bytes bs → Read 0 fs bs → fieldsOf fs ≡ bs
+fields-bytes fs bs q b r = bytes-from fs bs 0 q b r
+
+line-from : (fs : Fields) (xs : List ℕ) → Bytes xs → Bytes (fieldsFrom xs fs) × (length (fieldsFrom xs fs) ≡ widths (length xs) fs)
+line-from [] xs b = (b, refl)
+line-from (f ∷ fs) xs b =
+    let l : length (xs ++ bytes_of f.0 f.1) ≡ length xs + f.0 = simp (length-append, length-bytes) in
+    let r = line-from fs (xs ++ bytes_of f.0 f.1) (bytes-append xs (bytes_of f.0 f.1) b (bytes-bytes f.0 f.1)) in
+    (r.0, r.1 ∙ ap (λ n. widths n fs) l)
+
+pub fields-frame : (k : ℕ) (fs : Fields) (rest : List ℕ) → k < 256 → frame_at k (widths 0 fs) (line_of (k ∷ fieldsOf fs) ++ rest) ≡ line (fieldsOf fs) rest
+unfolding Bytes
+fields-frame k fs rest h = let r = line-from fs [] tt in frame-of k (widths 0 fs) (fieldsOf fs) rest r.1 h r.0
+
+-- ── The head and an edge ────────────────────────────────────────────────────────────────────
+
+abbrev pub headFields : ℕ → ℕ → ℕ → ℕ → Fields
+headFields p d n e = (2, p) ∷ (1, d) ∷ (2, n) ∷ (2, e) ∷ []
+
+abbrev pub edgeFields : ℕ → ℕ → ℕ → ℕ → Fields
+edgeFields u v w s = (2, u) ∷ (2, v) ∷ (1, w) ∷ (4, s) ∷ []
+
+abbrev pub headBytes : ℕ → ℕ → ℕ → ℕ → List ℕ
+headBytes p d n e = fieldsOf (headFields p d n e)
+
+abbrev pub edgeBytes : ℕ → ℕ → ℕ → ℕ → List ℕ
+edgeBytes u v w s = fieldsOf (edgeFields u v w s)
 
 -- ── Two bytes: a node ───────────────────────────────────────────────────────────────────────
 

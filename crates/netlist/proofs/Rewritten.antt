@@ -15,8 +15,7 @@ use Rattle.netlist.specs.Read.{Reads}
 use Rattle.netlist.specs.Write.{text_of, Writes, Rewrites}
 use Rattle.netlist.proofs.Answered.{stands}
 use Rattle.netlist.proofs.theorems.One.{one-reading}
-use Rattle.netlist.proofs.theorems.Lines.{lines-fact}
-use Rattle.netlist.proofs.theorems.Sound.{reads-value}
+use Rattle.netlist.proofs.theorems.Sound.{reads-text}
 
 pub rewrites-stop : (t old : List ℕ) (a : Answer) (net : Netlist) {q : ℕ} {p : Place} → a ≡ Refused q p → Reads t (says a) net → Rewrites t old (says a) old
 rewrites-stop t old a net e r =
@@ -28,7 +27,7 @@ pub rewrites-done : (t old : List ℕ) (a : Answer) (net : Netlist) (s : Said) (
     → Rewrites t old s new
 rewrites-done t old a net s new {n} e r w =
     let v : Reads t (value n) net = subst (λ x. Reads t (says x) net) e r in
-    let q : t ≡ text_of net = ((lines-fact t net).0 (reads-value v).0).2 in
+    let q : t ≡ text_of net = reads-text v in
     let c : w.checked ≡ says a = (one-reading t w.checked (says a) w.same net (subst (λ x. Reads x w.checked w.same) (sym q) w.check) r).0 in
     record {
       said = says a;

@@ -17,22 +17,22 @@ use Rattle.theory.specs.Graph.{Wired}
 use Rattle.netlist.specs.declared.Netlist.{Netlist}
 use Rattle.netlist.specs.Net.{with_head, withNode, withEdge, graph_of}
 use Rattle.rules.specs.Rules.{headFits, nodeFits, edgeFits}
-use Rattle.netlist.specs.Read.{lines_of, nodesFrom, edgesFrom}
+use Rattle.netlist.specs.Read.{firstLine, lineOfNode, lineOfEdge, lines_of, nodesFrom, edgesFrom}
 use Rattle.netlist.specs.Write.{nodeLine, edgeLine, joined}
 use Rattle.netlist.specs.Theorems.{FitTo, Fit, toNode, toEdge}
 use Rattle.netlist.specs.inner.Record.{rows_to, cut}
 use Rattle.netlist.proofs.Rows.{rowsTo-in}
 use Rattle.netlist.proofs.Fits.{head-fits, node-fits, edge-fits, edge-fits-same}
-use Rattle.netlist.proofs.Fields.{headBytes, edgeBytes, four-numbers, four-frame, nodeBytes, node-numbers, node-frame}
+use Rattle.netlist.proofs.Fields.{headFields, edgeFields, headBytes, edgeBytes, fields-read, fields-frame, nodeBytes, node-numbers, node-frame}
 
 -- ── One line ────────────────────────────────────────────────────────────────────────────────
 
-head_step : (p d n e : ℕ) (rest : List ℕ) → headFits p d n e ≡ true → lines_of (line_of (1 ∷ headBytes p d n e) ++ rest) ≡ nodesFrom n 0 2 rest (with_head p d n e)
+head_step : (p d n e : ℕ) (rest : List ℕ) → headFits p d n e ≡ true → lines_of (line_of (1 ∷ headBytes p d n e) ++ rest) ≡ nodesFrom n 0 (firstLine (with_head p d n e)) rest (with_head p d n e)
 unfolding lines_of
 head_step p d n e rest h =
     let f = head-fits p d n e h in
-    let x = four-numbers 2 1 2 2 p d n e (omega arith) (omega arith) (omega arith) (omega arith) in
-    rw (four-frame 2 1 2 2 p d n e 1 rest (omega arith), x.0, x.1, x.2, x.3, h)
+    let x = fields-read (headFields p d n e) (omega arith, (omega arith, (omega arith, (omega arith, tt)))) in
+    rw (fields-frame 1 (headFields p d n e) rest (omega arith), x.0, x.1.0, x.1.1.0, x.1.1.1.0, h)
 
 node-step : (m i n : ℕ) (net : Netlist) (k d : ℕ) (rest : List ℕ) → nodeFits k d ≡ true
     → nodesFrom (suc m) i n (line_of (2 ∷ nodeBytes k d) ++ rest) net ≡ nodesFrom m (suc i) (suc n) rest (withNode net i k d)
@@ -48,8 +48,8 @@ unfolding edgesFrom
 edge-step m e n net u v w s rest few h =
     let f = edge-fits net.nodes (graph_of net).kind u v w s h in
     let l : 2 ^ w ≤ 2 ^ 32 = pow-le-pow_right (zero-lt-suc 1) f.2 in
-    let x = four-numbers 2 2 1 4 u v w s (omega arith) (omega arith) (omega arith) (omega arith) in
-    rw (four-frame 2 2 1 4 u v w s 3 rest (omega arith), x.0, x.1, x.2, x.3, h)
+    let x = fields-read (edgeFields u v w s) (omega arith, (omega arith, (omega arith, (omega arith, tt)))) in
+    rw (fields-frame 3 (edgeFields u v w s) rest (omega arith), x.0, x.1.0, x.1.1.0, x.1.1.1.0, h)
 
 -- ── All lines so far ────────────────────────────────────────────────────────────────────────
 
@@ -75,7 +75,7 @@ module _ (net : Netlist) where
       (rowsTo-in 512 (λ i. get_or net.kind i 0) net.nodes (fit-rows f).0)
 
   -- By the lines in turn: a written line reads as the numbers written, these keep its rule, and their row is put where the cut record has it. Here m nodes are left.
-  pub run-nodes : (v m : ℕ) → m + v ≡ net.nodes → FitTo net v 0 → (rest : List ℕ) → lines_of (toNode net v ++ rest) ≡ nodesFrom m v (v + 2) rest (cut net v 0)
+  pub run-nodes : (v m : ℕ) → m + v ≡ net.nodes → FitTo net v 0 → (rest : List ℕ) → lines_of (toNode net v ++ rest) ≡ nodesFrom m v (lineOfNode net v) rest (cut net v 0)
   unfolding joined rows_to with_head
   run-nodes zero m q f rest =
       let e : m ≡ net.nodes = omega arith in
@@ -83,17 +83,17 @@ module _ (net : Netlist) where
   run-nodes (suc v) m q f rest =
       let k = get_or net.kind v 0 in
       let d = get_or net.delay v 0 in
-      let e : suc (v + 2) ≡ suc v + 2 = omega arith in
+      let e : suc (lineOfNode net v) ≡ lineOfNode net (suc v) = omega arith in
       ap lines_of (simp append_assoc) ∙ run-nodes v (suc m) (omega arith) (fit-less f v 0 (omega arith) (omega arith)) (nodeLine net v ++ rest)
-      ∙ node-step m v (v + 2) (cut net v 0) k d rest (f.node v (omega arith)) ∙ ap (λ n. nodesFrom m (suc v) n rest (cut net (suc v) 0)) e
+      ∙ node-step m v (lineOfNode net v) (cut net v 0) k d rest (f.node v (omega arith)) ∙ ap (λ n. nodesFrom m (suc v) n rest (cut net (suc v) 0)) e
 
   -- The same with all nodes read and m edges left.
   pub run-edges : (e m : ℕ) → m + e ≡ net.edges → FitTo net net.nodes e → (rest : List ℕ)
-      → lines_of (toEdge net e ++ rest) ≡ edgesFrom m e (net.nodes + e + 2) rest (cut net net.nodes e)
+      → lines_of (toEdge net e ++ rest) ≡ edgesFrom m e (lineOfEdge net e) rest (cut net net.nodes e)
   unfolding joined rows_to nodesFrom
   run-edges zero m q f rest =
       let a : net.edges ≡ m = omega arith in
-      let b : net.nodes + 2 ≡ net.nodes + 0 + 2 = omega arith in
+      let b : lineOfNode net net.nodes ≡ lineOfEdge net 0 = omega arith in
       ap lines_of (simp append-nil) ∙ run-nodes net.nodes 0 (omega arith) f rest ∙ ap₂ (λ k n. edgesFrom k 0 n rest (cut net net.nodes 0)) a b
   run-edges (suc e) m q f rest =
       let u = get_or net.from e 0 in
@@ -101,6 +101,6 @@ module _ (net : Netlist) where
       let w = get_or net.count e 0 in
       let s = get_or net.start e 0 in
       let now = cut net net.nodes e in
-      let a : suc (net.nodes + e + 2) ≡ net.nodes + suc e + 2 = omega arith in
+      let a : suc (lineOfEdge net e) ≡ lineOfEdge net (suc e) = omega arith in
       ap lines_of (simp append_assoc) ∙ run-edges e (suc m) (omega arith) (fit-less f net.nodes e (omega arith) (omega arith)) (edgeLine net e ++ rest)
-      ∙ edge-step m e (net.nodes + e + 2) now u v w s rest (fit-rows f).0 (cut_fits f e u v w s ∙ f.edge e (omega arith)) ∙ ap (λ n. edgesFrom m (suc e) n rest (cut net net.nodes (suc e))) a
+      ∙ edge-step m e (lineOfEdge net e) now u v w s rest (fit-rows f).0 (cut_fits f e u v w s ∙ f.edge e (omega arith)) ∙ ap (λ n. edgesFrom m (suc e) n rest (cut net net.nodes (suc e))) a

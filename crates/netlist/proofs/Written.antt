@@ -1,13 +1,13 @@
 -- What has been written so far: lines one after the other.
---   length-joined       lines of one length
---   head-length, node-length, edge-length, text-length    how long the lines and the text of a record are
+--   length-joined, joined-part    lines of one length; fewer lines are no longer
+--   head-length, node-length, edge-length, parts-length, text-length    how long the lines and the text of a record are
 --   put-more            one line more at the cursor
 --   text-parts          head, nodes and edges: the text
 --   text_in             what `put_text` puts: the text
 --   text-nodes, text-edges, text-room    or nothing: too many nodes, too many edges, too little room
 --   text-put            so that is what is written by a caller that has made sure of rows and room
 use Prim.Native.Nat.{ℕ, zero, suc, ◌+◌, ◌*◌, ◌≤◌, ◌<◌}
-use mathlib.Core.Path.{◌≡◌, ap, ◌∙◌}
+use mathlib.Core.Path.{◌≡◌, refl, sym, ap, ◌∙◌}
 use mathlib.Core.List.{List, [], ◌++◌}
 use native.Mathlib.Omega.{arith}
 use native.Mathlib.Nat.{mul-suc}
@@ -20,6 +20,8 @@ use Rattle.frame.proofs.Laws.{length-line}
 use Rattle.theory.proofs.numbers.Stores.{sets-sets}
 use Rattle.frame.proofs.Buffers.{placed-room}
 use Rattle.netlist.specs.declared.Netlist.{Netlist}
+use Rattle.netlist.proofs.Rows.{joined-split}
+use Rattle.netlist.proofs.Fields.{lineSize}
 use Rattle.netlist.specs.Write.{headLine, nodeLine, edgeLine, joined, text_of, textIn}
 
 pub length-joined : (f : ℕ → List ℕ) (k : ℕ) → ((i : ℕ) → length (f i) ≡ k) → (n : ℕ) → length (joined f n) ≡ k * n
@@ -27,37 +29,48 @@ unfolding joined
 length-joined f k h zero = omega arith
 length-joined f k h (suc n) = omega (arith, length-append (joined f n) (f n), mul-suc k n, h n, length-joined f k h n)
 
+joined-next : (f : ℕ → List ℕ) (i : ℕ) → joined f (i + 1) ≡ joined f i ++ f i
+unfolding joined
+joined-next f i = rw add-one
+
+pub joined-more : (f : ℕ → List ℕ) (i : ℕ) → length (joined f (i + 1)) ≡ length (joined f i) + length (f i)
+joined-more f i = ap length (joined-next f i) ∙ length-append (joined f i) (f i)
+
+pub joined-part : (f : ℕ → List ℕ) (n i : ℕ) → i < n → length (joined f (i + 1)) ≤ length (joined f n)
+joined-part f n i h =
+    let s = joined-split f n i h in
+    omega (arith, joined-more f i, simp length-append at (ap length s.1))
+
 module _ (net : Netlist) where
-  pub head-length : length (headLine net) ≡ 17
+  pub head-length : length (headLine net) ≡ lineSize 7
   unfolding bytes_of
   head-length = length-line _
 
-  pub node-length : (i : ℕ) → length (nodeLine net i) ≡ 7
+  pub node-length : (i : ℕ) → length (nodeLine net i) ≡ lineSize 2
   node-length i = length-line _
 
-  pub edge-length : (e : ℕ) → length (edgeLine net e) ≡ 21
+  pub edge-length : (e : ℕ) → length (edgeLine net e) ≡ lineSize 9
   unfolding bytes_of
   edge-length e = length-line _
 
-  pub text-length : length (text_of net) ≡ 17 + 7 * net.nodes + 21 * net.edges
+  pub parts-length : length (text_of net) ≡ length (headLine net) + length (joined (nodeLine net) net.nodes) + length (joined (edgeLine net) net.edges)
   unfolding text_of
+  parts-length = simp length-append
+
+  pub text-length : length (text_of net) ≡ lineSize 7 + lineSize 2 * net.nodes + lineSize 9 * net.edges
   text-length =
-      let n = length-joined (nodeLine net) 7 node-length net.nodes in
-      let m = length-joined (edgeLine net) 21 edge-length net.edges in
-      simp length-append (omega (arith, head-length))
+      omega (arith, parts-length, head-length, length-joined (nodeLine net) (lineSize 2) node-length net.nodes, length-joined (edgeLine net) (lineSize 9) edge-length net.edges)
 
 -- The line of item i at the cursor behind those of the items below it.
-pub put-more : (f : ℕ → List ℕ) (k : ℕ) → ((i : ℕ) → length (f i) ≡ k) → (old : List ℕ) (at i : ℕ) → at + k * (i + 1) ≤ length old
-    → placed (sets old at (joined f i)) (at + k * i) (f i) ≡ sets old at (joined f (i + 1))
-unfolding joined
-put-more f k h old at i room =
-    let l = length-joined f k h i in
-    let p : k * (i + 1) ≡ k * i + k = rw add-one (mul-suc k i) in
-    placed-room _ _ _ (simp length-sets (omega (arith, h i))) ∙ sets-sets (joined f i) (f i) old at (at + k * i) (omega arith) ∙ rw add-one
+pub put-more : (f : ℕ → List ℕ) (old : List ℕ) (at i : ℕ) → at + length (joined f (i + 1)) ≤ length old
+    → placed (sets old at (joined f i)) (at + length (joined f i)) (f i) ≡ sets old at (joined f (i + 1))
+put-more f old at i room =
+    let l = joined-more f i in
+    placed-room _ _ _ (simp length-sets (omega arith)) ∙ sets-sets (joined f i) (f i) old at (at + length (joined f i)) refl ∙ ap (sets old at) (sym (joined-next f i))
 
 -- Head, nodes and edges one after the other are the text.
 pub text-parts : (net : Netlist) (old : List ℕ) → length (text_of net) ≤ length old
-    → sets (sets (placed old 0 (headLine net)) 17 (joined (nodeLine net) net.nodes)) (17 + length (joined (nodeLine net) net.nodes)) (joined (edgeLine net) net.edges)
+    → sets (sets (placed old 0 (headLine net)) (lineSize 7) (joined (nodeLine net) net.nodes)) (lineSize 7 + length (joined (nodeLine net) net.nodes)) (joined (edgeLine net) net.edges)
     ≡ sets old 0 (text_of net)
 unfolding text_of
 text-parts net old room =
@@ -65,10 +78,10 @@ text-parts net old room =
     let n = joined (nodeLine net) net.nodes in
     let m = joined (edgeLine net) net.edges in
     let l = head-length net in
-    let r : 0 + length h ≤ length old = omega (arith, text-length net) in
-    ap (λ x. sets (sets x 17 n) (17 + length n) m) (placed-room old 0 h r)
-    ∙ ap (λ x. sets x (17 + length n) m) (sets-sets h n old 0 17 (omega arith))
-    ∙ sets-sets (h ++ n) m old 0 (17 + length n) (omega (arith, length-append h n))
+    let r : 0 + length h ≤ length old = omega (arith, parts-length net) in
+    ap (λ x. sets (sets x (lineSize 7) n) (lineSize 7 + length n) m) (placed-room old 0 h r)
+    ∙ ap (λ x. sets x (lineSize 7 + length n) m) (sets-sets h n old 0 (lineSize 7) (omega arith))
+    ∙ sets-sets (h ++ n) m old 0 (lineSize 7 + length n) (omega (arith, length-append h n))
 
 -- With its rows and room the text is put; with too many nodes or edges, or too little room, nothing.
 module _ (net : Netlist) (m : ℕ) where

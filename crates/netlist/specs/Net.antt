@@ -1,6 +1,8 @@
 -- The netlist record: a row of each kind put in, and the circuit that it stands for.
 --   netWith                                   the record with these fields
 --   emptyNet, with_head, withNode, withEdge   the record as reading fills it
+--   atPeriod, withColumns                     the record with another period; with other columns of counts and start values
+--   plain                                     the record as a retimed one is written
 --   rounded, working                          hundredths rounded to a whole number; a working delay
 --   graph_of, regs_of, delayOf                the theory's graph and registers, and the working delays
 use Rattle.std.specs.Prelude.{cond, List, ℕ, ◌+◌, ◌*◌, ◌/◌, ◌%◌, eqb, ltb, get_or, set, replicate}
@@ -13,7 +15,7 @@ use Rattle.netlist.specs.declared.Netlist.{Netlist}
 unfoldable pub zeros : ℕ → List ℕ
 zeros n = replicate n 0
 
--- A netlist by its fields, in their order.
+-- A netlist by its fields, in their order. Every record of a netlist is made by this, so a new field is added here and where its value is known.
 abbrev pub netWith : ℕ → ℕ → ℕ → ℕ → List ℕ → List ℕ → List ℕ → List ℕ → List ℕ → List ℕ → Netlist
 netWith p d n e k l u v w s = record { period = p; derate = d; nodes = n; edges = e; kind = k; delay = l; from = u; to = v; count = w; start = s }
 
@@ -31,6 +33,16 @@ withNode net i k d =
 abbrev pub withEdge : Netlist → ℕ → ℕ → ℕ → ℕ → ℕ → Netlist
 withEdge net e u v w s =
     netWith net.period net.derate net.nodes net.edges net.kind net.delay (set net.from e u) (set net.to e v) (set net.count e w) (set net.start e s)
+
+abbrev pub atPeriod : Netlist → ℕ → Netlist
+atPeriod net p = netWith p net.derate net.nodes net.edges net.kind net.delay net.from net.to net.count net.start
+
+abbrev pub withColumns : Netlist → List ℕ → List ℕ → Netlist
+withColumns net counts words = netWith net.period net.derate net.nodes net.edges net.kind net.delay net.from net.to counts words
+
+-- A retimed netlist is written with lines of the same lengths as the netlist that was read.
+abbrev pub plain : Netlist → Netlist
+plain net = net
 
 abbrev pub graph_of : Netlist → Graph
 graph_of net = columnGraph net.nodes net.edges net.kind net.from net.to

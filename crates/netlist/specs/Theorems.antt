@@ -16,7 +16,7 @@
 --   SomeWalk, OneWalk                      every text has a walk of so many passes, and its marks are determined
 --   WalkBegins, WalkEnds                   what is marked before the first pass, and where a pass marked nothing
 use Rattle.std.specs.Prelude.{◌≡◌, Bool, true, false, ◌↔◌, List, [], ◌++◌, ℕ, ◌+◌, ◌*◌, ◌%◌, ◌<◌, ◌≤◌, eqb, length, get_or, take, drop}
-use Rattle.frame.specs.Frame.{bad, frame_at, line, number_at}
+use Rattle.frame.specs.Frame.{bad, frame_at, line}
 use Rattle.theory.specs.Walk.{FromInput}
 use Rattle.graph.specs.declared.layers.Layer.{Layer}
 use Rattle.graph.specs.Layers.{Told}
@@ -25,7 +25,7 @@ use Rattle.netlist.specs.Answer.{Said, value, whole, atNode, atLine}
 use Rattle.netlist.specs.Net.{rounded, working, graph_of}
 use Rattle.netlist.specs.Circuit.{LoopIn, SoundIn}
 use Rattle.rules.specs.Rules.{headFits, nodeFits, edgeFits}
-use Rattle.netlist.specs.Read.{fault, lines, lines_of, Judged, Reads, AllInReach, FanInsFit, OutOfReach, WrongFanIn}
+use Rattle.netlist.specs.Read.{lineOfNode, lineOfEdge, headRight, nodeRight, edgeRight, fault, lines, lines_of, Judged, Reads, AllInReach, FanInsFit, OutOfReach, WrongFanIn}
 use Rattle.netlist.specs.Write.{headLine, nodeLine, edgeLine, joined, text_of, Writes}
 use Rattle.netlist.specs.Walk.{Walks}
 
@@ -91,15 +91,15 @@ toEdge net e = headLine net ++ joined (nodeLine net) net.nodes ++ joined (edgeLi
 pub data FaultAt (t : List ℕ) : ℕ → ℕ → Type 0 where
   head-frame : frame_at 1 7 t ≡ bad → FaultAt t 1 1
   head-range : (bs rest : List ℕ) → frame_at 1 7 t ≡ line bs rest
-      → headFits (number_at 0 2 bs) (number_at 2 1 bs) (number_at 3 2 bs) (number_at 5 2 bs) ≡ false → FaultAt t 2 1
-  node-frame : (net : Netlist) (v : ℕ) (rest : List ℕ) → FitTo net v 0 → v < net.nodes → t ≡ toNode net v ++ rest → frame_at 2 2 rest ≡ bad → FaultAt t 1 (v + 2)
+      → headRight bs ≡ false → FaultAt t 2 1
+  node-frame : (net : Netlist) (v : ℕ) (rest : List ℕ) → FitTo net v 0 → v < net.nodes → t ≡ toNode net v ++ rest → frame_at 2 2 rest ≡ bad → FaultAt t 1 (lineOfNode net v)
   node-rule : (net : Netlist) (v : ℕ) (rest bs more : List ℕ) → FitTo net v 0 → v < net.nodes → t ≡ toNode net v ++ rest → frame_at 2 2 rest ≡ line bs more
-      → nodeFits (number_at 0 1 bs) (number_at 1 1 bs) ≡ false → FaultAt t 3 (v + 2)
+      → nodeRight bs ≡ false → FaultAt t 3 (lineOfNode net v)
   edge-frame : (net : Netlist) (e : ℕ) (rest : List ℕ) → FitTo net net.nodes e → e < net.edges → t ≡ toEdge net e ++ rest → frame_at 3 9 rest ≡ bad
-      → FaultAt t 1 (net.nodes + e + 2)
+      → FaultAt t 1 (lineOfEdge net e)
   edge-rule : (net : Netlist) (e : ℕ) (rest bs more : List ℕ) → FitTo net net.nodes e → e < net.edges → t ≡ toEdge net e ++ rest → frame_at 3 9 rest ≡ line bs more
-      → edgeFits net.nodes (graph_of net).kind (number_at 0 2 bs) (number_at 2 2 bs) (number_at 4 1 bs) (number_at 5 4 bs) ≡ false → FaultAt t 4 (net.nodes + e + 2)
-  surplus : (net : Netlist) (rest : List ℕ) → FitTo net net.nodes net.edges → t ≡ text_of net ++ rest → ¬ (rest ≡ []) → FaultAt t 1 (net.nodes + net.edges + 2)
+      → edgeRight net bs ≡ false → FaultAt t 4 (lineOfEdge net e)
+  surplus : (net : Netlist) (rest : List ℕ) → FitTo net net.nodes net.edges → t ≡ text_of net ++ rest → ¬ (rest ≡ []) → FaultAt t 1 (lineOfEdge net net.edges)
 
 abbrev pub FaultFact : Type 0
 FaultFact = (t : List ℕ) (q n : ℕ) → (lines_of t ≡ fault (atLine q n)) ↔ FaultAt t q n
@@ -151,8 +151,8 @@ RecordFact = (net : Netlist) → Typed net
 -- The first line of a record that breaks its rule: 2, 3 or 4, and its number.
 pub data RecordFault (net : Netlist) : ℕ → ℕ → Type 0 where
   bad-head : headTest net ≡ false → RecordFault net 2 1
-  bad-node : (v : ℕ) → FitTo net v 0 → v < net.nodes → nodeTest net v ≡ false → RecordFault net 3 (v + 2)
-  bad-edge : (e : ℕ) → FitTo net net.nodes e → e < net.edges → edgeTest net e ≡ false → RecordFault net 4 (net.nodes + e + 2)
+  bad-node : (v : ℕ) → FitTo net v 0 → v < net.nodes → nodeTest net v ≡ false → RecordFault net 3 (lineOfNode net v)
+  bad-edge : (e : ℕ) → FitTo net net.nodes e → e < net.edges → edgeTest net e ≡ false → RecordFault net 4 (lineOfEdge net e)
 
 abbrev pub RecordFaults : Type 0
 RecordFaults = (net : Netlist) → Typed net → (q n : ℕ) → (lines_of (text_of net) ≡ fault (atLine q n)) ↔ RecordFault net q n

@@ -7,7 +7,7 @@ ghost use Rattle.netlist.specs.Theorems.{FitTo};
 ghost use Rattle.netlist.specs.inner.Record.{cut, Tested};
 
 use crate::judging::judge;
-use crate::lines::with_head;
+use crate::lines::{FIRST_LINE, with_head};
 use crate::{Answer, Netlist, Place, Reading};
 use rules::{edge_fits, head_fits, node_fits};
 
@@ -20,7 +20,7 @@ fn node_fault(net: Netlist) -> Answer
     let mut v = 0;
     while v < nodes {
         if !node_fits(net.kind[v], net.delay[v]) {
-            return Answer::Refused(3, Place::Line((v + 2) as u16));
+            return Answer::Refused(3, Place::Line((FIRST_LINE + v) as u16));
         }
         v += 1;
     }
@@ -45,7 +45,7 @@ fn edge_fault(net: Netlist) -> Answer
             net.count[e],
             net.start[e],
         ) {
-            return Answer::Refused(4, Place::Line(((nodes as usize) + e + 2) as u16));
+            return Answer::Refused(4, Place::Line((FIRST_LINE + (nodes as usize) + e) as u16));
         }
         e += 1;
     }

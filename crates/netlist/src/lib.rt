@@ -14,7 +14,7 @@ pub use checking::check;
 pub use lines::read;
 pub use rewriting::rewrite;
 pub use walking::walk;
-pub use writing::{put_text, write};
+pub use writing::{put_text, write, written_len};
 
 // "A netlist is its head, its N nodes and its E edges; record rows past them are read by nothing, and reading makes them 0."
 #[repr(C)]

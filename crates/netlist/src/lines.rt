@@ -1,21 +1,25 @@
 // Reading: the lines in turn, each at a cursor, filling the record row by row; then rules 5, 6 and 7.
-ghost use Rattle.std.specs.Prelude.{◌≡◌, ◌+◌, ◌*◌, ◌≤◌, get_or, drop};
+ghost use Rattle.std.specs.Prelude.{◌≡◌, ◌+◌, ◌*◌, ◌≤◌, ◌<◌, get_or, drop};
 ghost use Rattle.frame.specs.inner.Decoded.{Digits};
 ghost use Rattle.netlist.specs.Answer.{says};
 ghost use Rattle.netlist.specs.inner.Stages.{Goes, Lined};
 ghost use Rattle.netlist.specs.Net.{emptyNet, with_head};
-ghost use Rattle.netlist.specs.Read.{nothingMore, edgesFrom, nodesFrom, lines_of, Reads};
+ghost use Rattle.netlist.specs.Read.{lineOfNode, lineOfEdge, nothingMore, edgesFrom, nodesFrom, lines_of, Reads};
 
 use crate::judging::judge;
 use crate::{Answer, Netlist, Place, Reading};
 use graph::{EDGES, NODES};
 use rules::{edge_fits, head_fits, node_fits};
 
-// What lines have filled: the record and the cursor past them; or a refusal, and an empty record.
+// The number of the line behind the head (specs/Read, `firstLine`).
+pub const FIRST_LINE: usize = 2;
+
+// What lines have filled: the record, the cursor past them and the number of the next line; or a refusal, and an empty record.
 #[derive(Clone, Copy)]
 pub struct Filled {
     pub answer: Answer,
     pub at: usize,
+    pub line: usize,
     pub net: Netlist,
 }
 
@@ -39,12 +43,13 @@ pub fn with_head(period: u16, derate: u8, nodes: u16, edges: u16) -> Netlist
 
 // A refusal at a line.
 fn fault(q: u8, line: usize) -> Filled
-    requires { line ≤ 2000 }
-    ensures { (result.answer ≡ Answer.Refused q (Place.Line line)) × (result.net ≡ emptyNet) }
+    requires { line < 65536 }
+    ensures { (result.answer ≡ Answer.Refused q (Place.Line line)) × (result.net ≡ emptyNet) × (result.line ≡ 0) }
 {
     Filled {
         answer: Answer::Refused(q, Place::Line(line as u16)),
         at: 0,
+        line: 0,
         net: with_head(0, 0, 0, 0),
     }
 }
@@ -66,8 +71,8 @@ fn quad(high: u16, low: u16) -> u32
 // The head line.
 fn read_head(table: &[u8], text: &[u8]) -> Filled
     requires { Digits table.now }
-    ensures goes { Goes result.answer (lines_of text.now) (nodesFrom result.net.nodes 0 2 (drop result.at text.now) result.net) result.net }
-    ensures nodes_bound { (result.net.nodes ≤ 512) × (result.net.edges ≤ 1024) }
+    ensures goes { Goes result.answer (lines_of text.now) (nodesFrom result.net.nodes 0 result.line (drop result.at text.now) result.net) result.net }
+    ensures bounds { (result.net.nodes ≤ 512) × (result.net.edges ≤ 1024) × (result.line ≤ lineOfNode result.net 0) }
 {
     let f = frame::frame_by(table, text, 0, 1, 7);
     if !f.ok {
@@ -84,38 +89,42 @@ fn read_head(table: &[u8], text: &[u8]) -> Filled
     Filled {
         answer: Answer::Done(0),
         at: 17,
+        line: FIRST_LINE,
         net: with_head(period, derate, nodes, edges),
     }
 }
 
-// The node lines from the cursor `at0`, line 2.
-fn read_nodes(table: &[u8], text: &[u8], at0: usize, net0: Netlist) -> Filled
+// The node lines from the cursor `at0`, which is at line `line0`.
+fn read_nodes(table: &[u8], text: &[u8], at0: usize, line0: usize, net0: Netlist) -> Filled
     requires digits { Digits table.now }
-    requires nodes_bound { (net0.nodes ≤ 512) × (net0.edges ≤ 1024) }
-    ensures goes { Goes result.answer (nodesFrom net0.nodes 0 2 (drop at0 text.now) net0) (edgesFrom result.net.edges 0 (2 + result.net.nodes) (drop result.at text.now) result.net) result.net }
-    ensures nodes_bound_2 { (result.net.nodes ≤ 512) × (result.net.edges ≤ 1024) }
+    requires bounds { (net0.nodes ≤ 512) × (net0.edges ≤ 1024) × (line0 ≤ lineOfNode net0 0) }
+    ensures goes { Goes result.answer (nodesFrom net0.nodes 0 line0 (drop at0 text.now) net0) (edgesFrom result.net.edges 0 result.line (drop result.at text.now) result.net) result.net }
+    ensures bounds_left { (result.net.nodes ≤ 512) × (result.net.edges ≤ 1024) × (result.line ≤ lineOfEdge result.net 0) }
 {
     let mut net = net0;
     let n = net.nodes as usize;
     let mut at = at0;
+    let mut line = line0;
     let mut i = 0;
     while i < n {
         let f = frame::frame_by(table, text, at, 2, 2);
         if !f.ok {
-            return fault(1, 2 + i);
+            return fault(1, line);
         }
         let b = f.bytes;
         if !node_fits(b[0], b[1]) {
-            return fault(3, 2 + i);
+            return fault(3, line);
         }
         net.kind[i] = b[0];
         net.delay[i] = b[1];
         at += 7;
+        line += 1;
         i += 1;
     }
     Filled {
         answer: Answer::Done(0),
         at,
+        line,
         net,
     }
 }
@@ -141,39 +150,41 @@ fn edge_row(b: [u8; 16]) -> EdgeRow
     }
 }
 
-// The edge lines from the cursor `at0`, after as many node lines as the head says.
-fn read_edges(table: &[u8], text: &[u8], at0: usize, net0: Netlist) -> Filled
+// The edge lines from the cursor `at0`, which is at line `line0`.
+fn read_edges(table: &[u8], text: &[u8], at0: usize, line0: usize, net0: Netlist) -> Filled
     requires digits { Digits table.now }
-    requires nodes_bound { (net0.nodes ≤ 512) × (net0.edges ≤ 1024) }
-    ensures goes { Goes result.answer (edgesFrom net0.edges 0 (2 + net0.nodes) (drop at0 text.now) net0) (nothingMore (drop result.at text.now) (2 + result.net.nodes + result.net.edges) result.net) result.net }
-    ensures nodes_bound_2 { (result.net.nodes ≤ 512) × (result.net.edges ≤ 1024) }
+    requires bounds { (net0.nodes ≤ 512) × (net0.edges ≤ 1024) × (line0 ≤ lineOfEdge net0 0) }
+    ensures goes { Goes result.answer (edgesFrom net0.edges 0 line0 (drop at0 text.now) net0) (nothingMore (drop result.at text.now) result.line result.net) result.net }
+    ensures bounds_left { (result.net.nodes ≤ 512) × (result.net.edges ≤ 1024) × (result.line ≤ lineOfEdge result.net result.net.edges) }
 {
     let mut net = net0;
     let nodes = net.nodes;
     let edges = net.edges as usize;
-    let first = 2 + (nodes as usize);
     let mut at = at0;
+    let mut line = line0;
     let mut e = 0;
     while e < edges {
         let f = frame::frame_by(table, text, at, 3, 9);
         if !f.ok {
-            return fault(1, first + e);
+            return fault(1, line);
         }
         let b = f.bytes;
         let row = edge_row(b);
         if !edge_fits(&net.kind, nodes, row.from, row.to, row.count, row.start) {
-            return fault(4, first + e);
+            return fault(4, line);
         }
         net.from[e] = row.from;
         net.to[e] = row.to;
         net.count[e] = row.count;
         net.start[e] = row.start;
         at += 21;
+        line += 1;
         e += 1;
     }
     Filled {
         answer: Answer::Done(0),
         at,
+        line,
         net,
     }
 }
@@ -192,7 +203,7 @@ pub fn read_lines(table: &[u8], text: &[u8]) -> Reading
             net: headed,
         };
     };
-    let nodes = read_nodes(table, text, head.at, headed);
+    let nodes = read_nodes(table, text, head.at, head.line, headed);
     let b = nodes.answer;
     let noded = nodes.net;
     let Answer::Done(_) = b else {
@@ -201,16 +212,15 @@ pub fn read_lines(table: &[u8], text: &[u8]) -> Reading
             net: noded,
         };
     };
-    let edges = read_edges(table, text, nodes.at, noded);
+    let edges = read_edges(table, text, nodes.at, nodes.line, noded);
     let c = edges.answer;
     let net = edges.net;
     let Answer::Done(_) = c else {
         return Reading { answer: c, net };
     };
     if edges.at < text.len() {
-        let line = 2 + net.nodes + net.edges;
         return Reading {
-            answer: Answer::Refused(1, Place::Line(line)),
+            answer: Answer::Refused(1, Place::Line(edges.line as u16)),
             net: with_head(0, 0, 0, 0),
         };
     }

@@ -1,4 +1,5 @@
 -- What `list` puts out, in its two cases, and what `listing` makes of it.
+--   size, size-fits     how many bytes are written of a netlist; no more than its text has
 --   fitted              the length of the buffer and what it held decide nothing
 --   came                where a number is said, the text reads, and the new text stands at the front
 --   lag-rows, lag-words so the lines of the lags have room, and two bytes hold each lag
@@ -8,12 +9,12 @@
 use Prim.Native.Nat.{ℕ, ◌+◌, ◌*◌, ◌≤◌, ◌<◌, min}
 use native.Mathlib.Omega.{arith}
 use native.Mathlib.Decide.{dec_le}
-use mathlib.Core.Path.{◌≡◌, refl, sym, ap, ap₂, subst, ◌∙◌}
-use mathlib.Core.Logic.{inl, inr}
-use mathlib.Core.List.{List, [], ◌++◌, append-nil}
+use mathlib.Core.Path.{◌≡◌, refl, sym, ap, ap₂, subst, subst₂, ◌∙◌}
+use mathlib.Core.Logic.{inl, inr, ⊎_elim}
+use mathlib.Core.List.{List, ◌++◌}
 use borrow.Author.Tests.{le-leb}
 use lib.IntN.{ℤ, pos}
-use lib.ListN.{length, take, drop, get_or, replicate, length-append, length-drop, drop_of_length-le}
+use lib.ListN.{length, take, drop, get_or, replicate, length-append, length-drop}
 use lib.Seq.{sets, sets-eq, take_all, take_at, drop-append-add, drop-drop, length-take-le}
 use Rattle.theory.specs.Lag.{up, down}
 use Rattle.frame.specs.Frame.{placed}
@@ -23,25 +24,27 @@ use Rattle.netlist.specs.declared.Place.{Place}
 use Rattle.netlist.specs.declared.Place.TheVariants.{Whole, Line, Node, Edge}
 use Rattle.netlist.specs.declared.Answer.{Answer}
 use Rattle.netlist.specs.declared.Answer.TheVariants.{Done, Refused}
-use Rattle.netlist.specs.Answer.{Said, value, says, whole, holds}
-use Rattle.netlist.specs.Net.{zeros}
+use Rattle.netlist.specs.Answer.{Said, value, refused, says, whole, holds}
+use Rattle.netlist.specs.Net.{zeros, plain}
 use Rattle.netlist.specs.Order.{Given}
 use Rattle.netlist.specs.Read.{Reads}
 use Rattle.netlist.specs.Write.{joined, text_of}
+use Rattle.netlist.proofs.Fits.{clash}
 use Rattle.netlist.proofs.Order.{else-map}
 use Rattle.netlist.proofs.Rows.{length-zeros}
 use Rattle.netlist.proofs.Run.{fit-rows}
 use Rattle.netlist.proofs.Written.{length-joined}
 use Rattle.netlist.proofs.theorems.One.{one-reading}
 use Rattle.netlist.proofs.theorems.Some.{some-reading}
+use Rattle.netlist.proofs.theorems.Sound.{reads-text}
 use Rattle.simulate.proofs.Answered.{says-refused}
 use Rattle.lags.proofs.Laws.{read-sure}
 use Rattle.moves.specs.Moved.{movedNet}
 use Rattle.retime.specs.Retime.{Short, Retimes}
-use Rattle.retime.proofs.Call.{back-reads}
-use Rattle.retime.proofs.theorems.Moved.{same_length}
+use Rattle.retime.proofs.Call.{reading, unread, left-of, of_left, back-reads}
+use Rattle.retime.proofs.theorems.Moved.{written-length}
 use Rattle.retime.proofs.theorems.Demand.{lags-fit}
-use Rattle.retime.proofs.theorems.Refusals.{nothing-touched}
+use Rattle.retime.proofs.theorems.Refusals.{unread-fact, nothing-touched}
 use Rattle.printing.specs.Shown.{refusalLine, lineIn}
 use Rattle.printing.proofs.Shown.{counted, refusal-length}
 use Rattle.printing.specs.declared.Printed.{Printed}
@@ -52,39 +55,58 @@ use Rattle.printing.proofs.More.{more-decides-nothing}
 
 -- ── The buffer decides nothing ──────────────────────────────────────────────────────────────
 
+-- How many bytes are written of the netlist of a text: no more than the text has.
+abbrev size : Netlist → ℕ
+size net = length (text_of (plain net))
+
+size-fits : {t : List ℕ} {net : Netlist} → Reads t (value 0) net → size net ≤ length t
+size-fits h = omega (arith, ap length (reads-text h))
+
 -- The same outcome in a buffer as long as the text.
 record Fitted (t : List ℕ) (lags : List ℤ) (s : Said) (mid : List ℕ) (lags' : List ℤ) : Type 0 where
   pub new : List ℕ
   pub retimes : Retimes t (zeros (length t)) lags s new lags'
-  pub same : (k : ℕ) → s ≡ value k → take (length t) mid ≡ new
+  pub same : (net : Netlist) → Reads t (value 0) net → (k : ℕ) → s ≡ value k → take (size net) mid ≡ take (size net) new
 
 -- Neither buffer is too short, so the table decides whether 12 is said.
-short-in : (t old out : List ℕ) (lags : List ℤ) (net : Netlist) → length t ≤ length old → (s : Said) → Given (Short t old lags net) (whole 12) s → Given (Short t out lags net) (whole 12) s
-short-in t old out lags net room s (inl x, e) = absurd (let z : ⊥ = omega arith in z)
-short-in t old out lags net room s (inr x, e) = (inr x, e)
+short-in : (old out : List ℕ) (lags : List ℤ) (net : Netlist) → size net ≤ length old → (s : Said) → Given (Short old lags net) (whole 12) s → Given (Short out lags net) (whole 12) s
+short-in old out lags net room s (inl x, e) = absurd (let z : ⊥ = omega arith in z)
+short-in old out lags net room s (inr x, e) = (inr x, e)
 
+-- Of a text that is refused both buffers are as they were. Of one that reads the new text stands at the front of both.
 fitted : {t old mid : List ℕ} {lags lags' : List ℤ} {s : Said} → length t ≤ length old → Retimes t old lags s mid lags' → Fitted t lags s mid lags'
-fitted {t} {old} {lags = lags} {s = s} room o =
-    let zero_room : length t ≤ length (zeros (length t)) = omega (arith, length-zeros (length t)) in
-    let new = text_of (movedNet o.net o.lag o.choice) in
-    record {
-      new = holds s new (zeros (length t));
-      retimes = record {
-        checked = o.checked;
-        net = o.net;
-        reads = o.reads;
-        lag = o.lag;
-        choice = o.choice;
-        answer = else-map (λ x h. h) (λ x h. h) (else-map (short-in t old (zeros (length t)) lags o.net room) (short-in t (zeros (length t)) old lags o.net zero_room) (λ h. h)) o.answer;
-        buffer = refl;
-        table = o.table;
-      };
-      same = λ k e.
-          let long : length new ≡ length t = same_length t o.net o.lag o.choice (back-reads o e) in
-          let ends : drop (length new) (zeros (length t)) ≡ [] = drop_of_length-le (zeros (length t)) {i = length new} (omega (arith, long, length-zeros (length t))) in
-          ap (take (length t)) (o.buffer ∙ ap (λ a. holds a new old) e) ∙ take_at new (drop (length new) old) (length t) long
-          ∙ sym (ap (λ a. holds a new (zeros (length t))) e ∙ ap (λ z. new ++ z) ends ∙ append-nil new);
-    }
+fitted {t} {old} {mid} {lags} {lags'} {s} room o = ⊎_elim (λ (q, k, p, net, h). stops h) (λ (net, h). goes net h) (reading t)
+  where
+    stops : {q k p : ℕ} {net : Netlist} → Reads t (refused q k p) net → Fitted t lags s mid lags'
+    stops {q} {k} {p} {net} h =
+        let e = unread-fact t old lags s mid lags' q k p net h o in
+        let same : lags' ≡ lags = (nothing-touched t old lags s mid lags' q k p o e).1 in
+        record {
+          new = zeros (length t);
+          retimes = subst₂ (λ x l. Retimes t (zeros (length t)) lags x (zeros (length t)) l) (sym e) (sym same) (unread h);
+          same = λ n h' i z. clash (cc);
+        }
+
+    goes : (net : Netlist) → Reads t (value 0) net → Fitted t lags s mid lags'
+    goes net h =
+        let x = left-of net h o in
+        let new = text_of (movedNet net x.lag x.choice) in
+        let zero_room : size net ≤ length (zeros (length t)) = omega (arith, size-fits h, length-zeros (length t)) in
+        let front : (xs : List ℕ) (k : ℕ) → s ≡ value k → take (size net) (holds s new xs) ≡ new =
+        λ xs k e. ap (λ a. take (size net) (holds a new xs)) e ∙ take_at new (drop (length new) xs) (size net) (written-length net x.lag x.choice) in
+        record {
+          new = holds s new (zeros (length t));
+          retimes = of_left net h (record {
+            lag = x.lag;
+            choice = x.choice;
+            answer = else-map (short-in old (zeros (length t)) lags net (omega (arith, size-fits h))) (short-in (zeros (length t)) old lags net zero_room) (λ r. r) x.answer;
+            buffer = refl;
+            table = x.table;
+          });
+          same = λ n h' k e.
+              let z : size n ≡ size net = ap size (one-reading t (value 0) (value 0) n net h' h).1 in
+              ap (λ i. take i mid) z ∙ ap (take (size net)) x.buffer ∙ front old k e ∙ sym (front (zeros (length t)) k e) ∙ ap (λ i. take i (holds s new (zeros (length t)))) (sym z);
+        }
 
 -- ── The two cases ───────────────────────────────────────────────────────────────────────────
 
@@ -93,14 +115,13 @@ record Came (t old mid : List ℕ) : Type 0 where
   pub net : Netlist
   pub reads : Reads t (value 0) net
   pub new : List ℕ
-  pub long : length new ≡ length t
+  pub long : length new ≡ size net
   pub front : mid ≡ new ++ drop (length new) old
 
 came : {t old mid : List ℕ} {before lags : List ℤ} {s : Said} {k : ℕ} → Retimes t old before s mid lags → s ≡ value k → Came t old mid
 came {t} {old} o e =
     let new = text_of (movedNet o.net o.lag o.choice) in
-    let h = back-reads o e in
-    record { net = o.net; reads = h; new = new; long = same_length t o.net o.lag o.choice h; front = o.buffer ∙ ap (λ a. holds a new old) e }
+    record { net = o.net; reads = back-reads o e; new = new; long = written-length o.net o.lag o.choice; front = o.buffer ∙ ap (λ a. holds a new old) e }
 
 listed-refused : (q : ℕ) (p : Place) (new : List ℕ) (lags : List ℤ) (nodes : ℕ) → listed (says (Refused q p)) new lags nodes ≡ refusalLine (says (Refused q p))
 listed-refused q Whole new lags nodes = refl
@@ -126,10 +147,11 @@ module _ (t old mid : List ℕ) (lags : List ℤ) (a : Answer) (w : Retimes t ol
     few = (fit-rows net (read-sure t net reads).fit).0
 
     mid-length : length mid ≡ length old
-    mid-length = ap length here.front ∙ length-append here.new (drop (length here.new) old) ∙ omega (arith, here.long, length-drop (length here.new) old)
+    mid-length =
+        ap length here.front ∙ length-append here.new (drop (length here.new) old) ∙ omega (arith, here.long, size-fits here.reads, length-drop (length here.new) old)
 
-    pub lag-rows : (net.nodes ≤ 512) × (length t + 11 * net.nodes ≤ length mid)
-    lag-rows = (few, omega (arith, few, mid-length))
+    pub lag-rows : (net.nodes ≤ 512) × (length (text_of (plain net)) + length (joined (lagLine lags) net.nodes) ≤ length mid)
+    lag-rows = (few, omega (arith, few, mid-length, size-fits reads, length-joined (lagLine lags) 11 (lag-length lags) net.nodes))
 
     pub lag-words : (v : ℕ) → v < net.nodes → (up (get_or lags v (pos 0)) < 32768) × (down (get_or lags v (pos 0)) ≤ 32768)
     lag-words v h = let f = lags-fit t old (replicate 512 (pos 0)) (says a) mid lags net reads w (k, ap says e) v h in (omega (arith, f.0), omega (arith, f.1))
@@ -142,17 +164,21 @@ module _ (t old mid : List ℕ) (lags : List ℤ) (a : Answer) (w : Retimes t ol
     lines-length = length-joined (lagLine lags) 11 (lag-length lags) net.nodes
 
     -- What stands past the new text is what stood there.
-    rest : (n : ℕ) → drop (length t + n) mid ≡ drop (length t + n) old
-    rest n =
-        ap₂ (λ l xs. drop (l + n) xs) (sym here.long) here.front ∙ drop-append-add here.new (drop (length here.new) old) n
-        ∙ drop-drop n (length here.new) old ∙ ap (λ l. drop (l + n) old) here.long
+    long : length here.new ≡ size net
+    long = here.long ∙ ap size (sym same.1)
 
-    pub lists-done : (new : List ℕ) (n : ℕ) → new ≡ sets mid (length t) (joined (lagLine lags) net.nodes) → n ≡ length t + length (joined (lagLine lags) net.nodes) → Lists t old n new
+    rest : (n : ℕ) → drop (size net + n) mid ≡ drop (size net + n) old
+    rest n =
+        ap₂ (λ l xs. drop (l + n) xs) (sym long) here.front ∙ drop-append-add here.new (drop (length here.new) old) n
+        ∙ drop-drop n (length here.new) old ∙ ap (λ l. drop (l + n) old) long
+
+    pub lists-done : (new : List ℕ) (at n : ℕ) → at ≡ length (text_of (plain net)) → new ≡ sets mid at (joined (lagLine lags) net.nodes)
+        → n ≡ at + length (joined (lagLine lags) net.nodes) → Lists t old n new
     unfolding lines
-    lists-done new n p q =
-        let front = take (length t) mid in
-        let front_length : length front ≡ length t = length-take-le (length t) mid (omega (arith, mid-length)) in
-        let long : length (front ++ lines) ≡ length t + length lines = length-append front lines ∙ ap (λ i. i + length lines) front_length in
+    lists-done new at n z p q =
+        let front = take (size net) mid in
+        let front_length : length front ≡ size net = length-take-le (size net) mid (omega (arith, mid-length, size-fits reads)) in
+        let long : length (front ++ lines) ≡ size net + length lines = length-append front lines ∙ ap (λ i. i + length lines) front_length in
         record {
           printed = front ++ lines;
           prints = record {
@@ -163,11 +189,11 @@ module _ (t old mid : List ℕ) (lags : List ℤ) (a : Answer) (w : Retimes t ol
             read = says b;
             net = net;
             reads = r;
-            prints = ap (λ x. x ++ lines) (fit.same k (ap says e)) ∙ ap (λ s. listed s fit.new lags net.nodes) (sym (ap says e));
+            prints = ap (λ x. x ++ lines) (fit.same net reads k (ap says e)) ∙ ap (λ s. listed s (take (size net) fit.new) lags net.nodes) (sym (ap says e));
           };
-          count = q ∙ sym long;
-          bytes = p ∙ sets-eq lines mid (length t) (omega (arith, lines-length, few, mid-length)) ∙ ap (λ xs. front ++ lines ++ xs) (rest (length lines) ∙ ap (λ i. drop i old) (sym long));
-          room = omega (arith, long, lines-length, few);
+          count = q ∙ ap (λ i. i + length lines) z ∙ sym long;
+          bytes = p ∙ ap (λ i. sets mid i lines) z ∙ sets-eq lines mid (size net) (omega (arith, lines-length, few, mid-length, size-fits reads)) ∙ ap (λ xs. front ++ lines ++ xs) (rest (length lines) ∙ ap (λ i. drop i old) (sym long));
+          room = omega (arith, long, lines-length, few, size-fits reads);
         }
 
   pub lists-refused : {q : ℕ} {p : Place} → a ≡ Refused q p → (new : List ℕ) (n : ℕ) → new ≡ placed mid 0 (refusalLine (says (Refused q p))) → n ≡ lineIn (refusalLine (says (Refused q p))) mid
@@ -188,7 +214,7 @@ module _ (t old mid : List ℕ) (lags : List ℤ) (a : Answer) (w : Retimes t ol
           read = any.0;
           net = any.1;
           reads = any.2;
-          prints = sym (ap (λ x. listed (says x) fit.new lags any.1.nodes) e ∙ listed-refused q p fit.new lags any.1.nodes);
+          prints = sym (ap (λ x. listed (says x) (take (size any.1) fit.new) lags any.1.nodes) e ∙ listed-refused q p (take (size any.1) fit.new) lags any.1.nodes);
         };
         count = g ∙ rw (le-leb (length line) (length mid) (omega (arith, long, ap length stays)));
         bytes = f ∙ placed-room mid 0 line (omega (arith, long, ap length stays)) ∙ sets-eq line mid 0 (omega (arith, long, ap length stays))

@@ -13,8 +13,9 @@ use lib.ListN.{length, take, replicate}
 use lib.Seq.{take_all}
 use Rattle.netlist.specs.declared.Netlist.{Netlist}
 use Rattle.netlist.specs.Answer.{refused}
-use Rattle.netlist.specs.Net.{zeros}
+use Rattle.netlist.specs.Net.{zeros, plain}
 use Rattle.netlist.specs.Read.{Reads}
+use Rattle.netlist.specs.Write.{text_of}
 use Rattle.netlist.proofs.Run.{fit-rows}
 use Rattle.netlist.proofs.Written.{text-length}
 use Rattle.netlist.proofs.theorems.Lines.{lines-fact}
@@ -42,7 +43,7 @@ module _ {t : List ℕ} {q k p : ℕ} {net : Netlist} (h : Reads t (refused q k 
   prints-refusal : {b : List ℕ} → Prints t b → b ≡ refusalLine (refused q k p)
   prints-refusal x =
       let s = unread-fact t (zeros (length t)) (replicate 512 (pos 0)) x.said x.new x.lags q k p net h x.retimes in
-      x.prints ∙ ap (λ s. listed s x.new x.lags x.net.nodes) s
+      x.prints ∙ ap (λ s. listed s (take (length (text_of (plain x.net))) x.new) x.lags x.net.nodes) s
 
 -- A text that reads is its netlist's: a head of 17 bytes, up to 512 nodes of 7 each, up to 1,024 edges of 21 each.
 long-refused : (t : List ℕ) → 25105 < length t → (q : ℕ) × (k : ℕ) × (p : ℕ) × (net : Netlist) × Reads t (refused q k p) net

@@ -4,23 +4,24 @@
 use Prim.Native.Nat.{ℕ}
 use Prim.Native.String.{String}
 use native.Mathlib.Omega.{arith}
-use mathlib.Core.Path.{◌≡◌, refl, sym, ap, ◌∙◌, subst}
+use mathlib.Core.Path.{◌≡◌, refl, sym, ap, ap₂, ◌∙◌, subst}
 use mathlib.Core.Bool.{Bool, true, false}
 use mathlib.Core.List.{List, ◌++◌}
 use lib.Dec.{T}
 use lib.IntN.{ℤ, pos}
-use lib.ListN.{length, get_or, drop, replicate, get_or-map}
+use lib.ListN.{length, get_or, take, drop, replicate, get_or-map}
 use Rattle.theory.proofs.cards.Tests.{all-elim}
 use Rattle.frame.specs.Frame.{charOf, hexOf, line_of, bytes_of}
 use Rattle.netlist.specs.declared.Netlist.{Netlist}
-use Rattle.netlist.specs.Answer.{value, refused}
-use Rattle.netlist.specs.Net.{zeros}
+use Rattle.netlist.specs.Answer.{Said, value, refused}
+use Rattle.netlist.specs.Net.{zeros, plain}
 use Rattle.netlist.specs.Read.{Reads}
-use Rattle.netlist.specs.Write.{joined}
+use Rattle.netlist.specs.Write.{joined, text_of}
 use Rattle.netlist.proofs.Rows.{length-zeros}
 use Rattle.netlist.proofs.Run.{fit-rows}
 use Rattle.netlist.proofs.theorems.One.{one-reading}
 use Rattle.netlist.proofs.theorems.Some.{some-reading}
+use Rattle.netlist.proofs.theorems.Sound.{reads-text}
 use Rattle.lags.proofs.Laws.{read-sure}
 use Rattle.retime.specs.Retime.{Room}
 use Rattle.retime.specs.Card.{bytes, printed, Result, back, refuses, runs, ClaimOf, Claim, A, cards}
@@ -35,14 +36,15 @@ pub some-print : SomePrint
 some-print t =
     let (s, new, lags, w) = some-outcome t (zeros (length t)) (replicate 512 (pos 0)) in
     let (read, net, r) = some-reading t in
-    (listed s new lags net.nodes, record { said = s; new = new; lags = lags; retimes = w; read = read; net = net; reads = r; prints = refl })
+    (listed s (take (length (text_of (plain net))) new) lags net.nodes, record { said = s; new = new; lags = lags; retimes = w; read = read; net = net; reads = r; prints = refl })
 
 pub one-print : OnePrint
 one-print t p q x y =
     let o = one-outcome t (zeros (length t)) (replicate 512 (pos 0)) x.said y.said x.new y.new x.lags y.lags x.retimes y.retimes in
-    let n = ap (λ m. m.nodes) (one-reading t x.read y.read x.net y.net x.reads y.reads).1 in
-    x.prints ∙ ap (λ s. listed s x.new x.lags x.net.nodes) o.0 ∙ ap (λ z. listed y.said z x.lags x.net.nodes) o.1
-    ∙ ap (λ z. listed y.said y.new z x.net.nodes) o.2 ∙ ap (listed y.said y.new y.lags) n ∙ sym y.prints
+    let n = (one-reading t x.read y.read x.net y.net x.reads y.reads).1 in
+    let printed : Said → List ℕ → List ℤ → Netlist → List ℕ = λ s new lags net. listed s (take (length (text_of (plain net))) new) lags net.nodes in
+    x.prints ∙ ap (λ s. printed s x.new x.lags x.net) o.0 ∙ ap (λ z. printed y.said z x.lags x.net) o.1
+    ∙ ap (λ z. printed y.said y.new z x.net) o.2 ∙ ap (printed y.said y.new y.lags) n ∙ sym y.prints
 
 -- ── The bench cards ─────────────────────────────────────────────────────────────────────────
 
@@ -54,11 +56,11 @@ module _ (t : List ℕ) where
   table : List ℤ → List ℤ
   table r = r ++ drop (length r) (replicate 512 (pos 0))
 
-  room : (net : Netlist) → Reads t (value 0) net → Room t (zeros (length t)) (replicate 512 (pos 0)) net
-  room net h = record { text = omega (arith, length-zeros (length t)); table = (fit-rows net (read-sure t net h).fit).0 }
+  room : (net : Netlist) → Reads t (value 0) net → Room (zeros (length t)) (replicate 512 (pos 0)) net
+  room net h = record { text = omega (arith, length-zeros (length t), ap length (reads-text h)); table = (fit-rows net (read-sure t net h).fit).0 }
 
   unfoldable page? : Result → List String → Bool
-  page? (back new r chosen) ends = alike (listed (value chosen) (left new) (table r) (length r)) (new ++ printed ends)
+  page? (back new r chosen) ends = alike (listed (value chosen) (take (length t) (left new)) (table r) (length r)) (new ++ printed ends)
   page? (refuses (value k)) ends = false
   page? (refuses (refused q k p)) ends = alike (refusalLine (refused q k p)) (printed ends)
   page? (runs vectors outputs) ends = true
@@ -66,7 +68,7 @@ module _ (t : List ℕ) where
   page : (o : Result) (ends : List String) → T (page? o ends) → ClaimOf t o → PageOf t o ends
   unfolding page? left table
   page (back new r chosen) ends x (net, h, l, claim) =
-      subst (Prints t) (alike-yes (listed (value chosen) (left new) (table r) (length r)) (new ++ printed ends) x) (record {
+      subst (Prints t) (alike-yes (listed (value chosen) (take (length t) (left new)) (table r) (length r)) (new ++ printed ends) x) (record {
         said = value chosen;
         new = left new;
         lags = table r;
@@ -74,7 +76,7 @@ module _ (t : List ℕ) where
         read = value 0;
         net = net;
         reads = h;
-        prints = ap (listed (value chosen) (left new) (table r)) l;
+        prints = ap₂ (λ n m. listed (value chosen) (take n (left new)) (table r) m) (ap length (reads-text h)) l;
       })
   page (refuses (value k)) ends x claim = absurd x
   page (refuses (refused q k p)) ends x (net, h, claim) =

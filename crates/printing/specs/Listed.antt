@@ -4,15 +4,15 @@
 --   listed              the new text and the lines of the lags; or the line of the refusal
 --   Prints t p          of the text t the bytes p are printed
 --   PrintsWhole t r     r holds what is printed of the text t
-use Rattle.std.specs.Prelude.{◌≡◌, List, [], ◌∷◌, ◌++◌, ℕ, ◌+◌, ◌-◌, ◌%◌, ℤ, pos, length, get_or, drop, replicate}
+use Rattle.std.specs.Prelude.{◌≡◌, List, [], ◌∷◌, ◌++◌, ℕ, ◌+◌, ◌-◌, ◌%◌, ℤ, pos, length, get_or, take, drop, replicate}
 use Rattle.io.specs.Counts.{IsPrefixLen}
 use Rattle.theory.specs.Lag.{up, down}
 use Rattle.frame.specs.Frame.{bytes_of, line_of}
 use Rattle.netlist.specs.declared.Netlist.{Netlist}
 use Rattle.netlist.specs.Answer.{Said, value, refused}
-use Rattle.netlist.specs.Net.{zeros}
+use Rattle.netlist.specs.Net.{zeros, plain}
 use Rattle.netlist.specs.Read.{Reads}
-use Rattle.netlist.specs.Write.{joined}
+use Rattle.netlist.specs.Write.{joined, text_of}
 use Rattle.retime.specs.Retime.{Retimes}
 use Rattle.printing.specs.Shown.{refusalLine}
 use Rattle.printing.specs.declared.Printed.{Printed}
@@ -30,7 +30,7 @@ abbrev pub listed : Said → List ℕ → List ℤ → ℕ → List ℕ
 listed (value k) new lags nodes = new ++ joined (lagLine lags) nodes
 listed (refused q k p) new lags nodes = refusalLine (refused q k p)
 
--- What retiming says of the text and leaves, in a buffer as long as the text ("same length") and a table of 512 lags; and the netlist of the text, for its number of nodes.
+-- What retiming says of the text and leaves, in a buffer as long as the text and a table of 512 lags; and the netlist of the text, for the length of the new text ("same length") and its number of nodes.
 pub record Prints (t p : List ℕ) : Type 0 where
   pub said : Said
   pub new : List ℕ
@@ -39,7 +39,7 @@ pub record Prints (t p : List ℕ) : Type 0 where
   pub read : Said
   pub net : Netlist
   pub reads : Reads t read net
-  pub prints : p ≡ listed said new lags net.nodes
+  pub prints : p ≡ listed said (take (length (text_of (plain net))) new) lags net.nodes
 
 -- What is printed of the text, however long it is, stands at the front, and 0 past it.
 pub record PrintsWhole (t : List ℕ) (r : Printed) : Type 0 where

@@ -1,5 +1,5 @@
 // What the program `listing` prints of a text: the new text and a line for each node's lag, or the line of a refusal. The promise is in specs/Listed.
-ghost use Rattle.std.specs.Prelude.{◌≡◌, [], ◌∷◌, ◌++◌, ℕ, ◌+◌, ◌*◌, ◌≤◌, ◌<◌, min, length, take, get_or, pos};
+ghost use Rattle.std.specs.Prelude.{◌≡◌, [], ◌∷◌, ◌++◌, ℕ, ◌+◌, ◌≤◌, ◌<◌, min, length, take, get_or, pos};
 ghost use Rattle.std.proofs.lemmas.List.Edits.{sets};
 ghost use Rattle.theory.specs.Lag.{up, down};
 ghost use Rattle.frame.specs.Frame.{bytes_of};
@@ -11,7 +11,7 @@ ghost use Rattle.printing.specs.inner.Lists.{Lists};
 use crate::refusals::put_refusal;
 use crate::{Printed, ROOM};
 use graph::NODES;
-use netlist::Answer;
+use netlist::{Answer, written_len};
 
 // A lag and 32,768.
 fn biased(z: i32) -> u32
@@ -44,7 +44,7 @@ fn lag_bytes(node: u16, lag: u16) -> [u8; 16]
 
 // The lines of the lags, from the cursor `at0`; the cursor past them.
 fn put_lag_lines(lags: &[i32], nodes: usize, out: &mut [u8], at0: usize) -> usize
-    requires nodes_bound { (nodes ≤ 512) × (nodes ≤ length lags.now) × (at0 + 11 * nodes ≤ length out.old) }
+    requires nodes_bound { (nodes ≤ 512) × (nodes ≤ length lags.now) × (at0 + length (joined (lagLine lags.now) nodes) ≤ length out.old) }
     requires by_index { (v : ℕ) → v < nodes → (up (get_or lags.now v (pos 0)) < 32768) × (down (get_or lags.now v (pos 0)) ≤ 32768) }
     ensures out_after { out.new ≡ sets out.old at0 (joined (lagLine lags.now) nodes) }
     ensures value { result ≡ at0 + length (joined (lagLine lags.now) nodes) }
@@ -61,6 +61,7 @@ fn put_lag_lines(lags: &[i32], nodes: usize, out: &mut [u8], at0: usize) -> usiz
 }
 
 // A text retimed and listed at the front of `out`, which has room for the text and the lags of 512 nodes; how many bytes that took.
+// The lines of the lags begin where the new text ends.
 fn list(text: &[u8], out: &mut [u8]) -> usize
     requires { length text.now + 5632 ≤ length out.old }
     ensures { Lists text.now out.old result out.new }
@@ -71,7 +72,7 @@ fn list(text: &[u8], out: &mut [u8]) -> usize
         Answer::Done(_) => {
             let reading = netlist::read(text);
             let net = reading.net;
-            put_lag_lines(&lags, net.nodes as usize, out, text.len())
+            put_lag_lines(&lags, net.nodes as usize, out, written_len(net))
         }
         Answer::Refused(q, p) => put_refusal(q, p, out),
     }

@@ -17,7 +17,7 @@ use Rattle.theory.proofs.least.Exists.{least-unique}
 use Rattle.graph.specs.Columns.{at}
 use Rattle.netlist.specs.declared.Netlist.{Netlist}
 use Rattle.netlist.specs.Answer.{Said, value, whole, atEdge}
-use Rattle.netlist.specs.Net.{graph_of, regs_of}
+use Rattle.netlist.specs.Net.{atPeriod, plain, graph_of, regs_of}
 use Rattle.netlist.specs.Circuit.{LeastIn, NarrowAt, NoneMeetsIn, chosenInAt}
 use Rattle.netlist.specs.inner.Words.{LegalAt, newCountAt}
 use Rattle.netlist.specs.Order.{here, past}
@@ -36,7 +36,7 @@ use Rattle.retime.proofs.theorems.Moved.{moved-regs}
 use Rattle.retime.proofs.theorems.Refusals.{refusal-facts}
 use Rattle.retime.proofs.theorems.Demand.{demand-follows}
 use Rattle.quote.specs.Quote.{most, registersAt, largestAt}
-use Rattle.quote.specs.Theorems.{atPeriod, RetimedAt}
+use Rattle.quote.specs.Theorems.{RetimedAt}
 use Rattle.quote.proofs.Most.{most-same, most-holds, most-first}
 
 number-said : (net : Netlist) (r : ℕ → ℤ) (c k : ℕ) → MovedBy net r c (value k) → k ≡ chosenInAt net r
@@ -54,7 +54,7 @@ module _ (net : Netlist) (p : ℕ) (h : Reads (text_of (atPeriod net p)) (value 
   abbrev its : Netlist
   its = atPeriod net p
 
-  facts : RetimeFacts (text_of its) x.out x.lags s its
+  facts : RetimeFacts x.out x.lags s its
   facts = refusal-facts (text_of its) x.out x.lags s out' x.lags' its h x.retimes
 
   pub eight-at : (s ≡ whole 8) ↔ NoneMeetsIn net p
@@ -76,11 +76,11 @@ module _ (net : Netlist) (p : ℕ) (h : Reads (text_of (atPeriod net p)) (value 
     pub chosen_at : (k : ℕ) → s ≡ value k → k ≡ chosenInAt net r
     chosen_at k z =
         let left = left-of its h x.retimes in
-        let row = moved_at (text_of its) x.out x.lags its left.lag left.choice (read-is-sound (text_of its) its h) x.room r l left.answer in
+        let row = moved_at x.out x.lags its left.lag left.choice (read-is-sound (text_of its) its h) x.room r l left.answer in
         number-said its r left.choice k (subst (MovedBy its r left.choice) z row)
 
     -- What comes back is moved by the lags of the table, and these are the least at each node.
-    pub counts-at : (k : ℕ) → s ≡ value k → (new : Netlist) × Reads (take (length (text_of its)) out') (value 0) new
+    pub counts-at : (k : ℕ) → s ≡ value k → (new : Netlist) × Reads (take (length (text_of (plain its))) out') (value 0) new
         × (registersAt net r ≡ sum (at new.count) new.edges) × (largestAt net r ≡ most (at new.count) new.edges)
     unfolding movedNet
     counts-at k z =

@@ -1,7 +1,6 @@
 -- What is to be proved of quotes, beside the call. Each is a type; proofs/theorems has a term of it.
 --   SomeQuote, OneQuote     every text has a quote, and one only
 --   LongerForbidsLess       what meets a period meets every longer one
---   atPeriod net p          the netlist with another period in its head
 --   PeriodReads             its text reads
 --   PeriodPlaysNoPart       netlists that differ only in the head's period have one quote
 --   RetimedAt net p r out'  the text with p in its head, retimed into enough room, says r and leaves out'
@@ -13,7 +12,7 @@ use Rattle.theory.specs.Move.{sum}
 use Rattle.graph.specs.Columns.{at}
 use Rattle.netlist.specs.declared.Netlist.{Netlist}
 use Rattle.netlist.specs.Answer.{Said, value, whole, atEdge}
-use Rattle.netlist.specs.Net.{netWith}
+use Rattle.netlist.specs.Net.{atPeriod, plain}
 use Rattle.netlist.specs.Circuit.{NoneMeetsIn}
 use Rattle.netlist.specs.Read.{Reads}
 use Rattle.netlist.specs.Write.{text_of}
@@ -31,9 +30,6 @@ LongerForbidsLess = (net : Netlist) (p q : ℕ) → p ≤ q → NoneMeetsIn net 
 
 -- ── Another period in the head ──────────────────────────────────────────────────────────────
 
-abbrev pub atPeriod : Netlist → ℕ → Netlist
-atPeriod net p = netWith p net.derate net.nodes net.edges net.kind net.delay net.from net.to net.count net.start
-
 abbrev pub PeriodReads : Type 0
 PeriodReads = (t : List ℕ) (net : Netlist) (p : ℕ) → Reads t (value 0) net → 1 ≤ p → p ≤ 65535 → Reads (text_of (atPeriod net p)) (value 0) (atPeriod net p)
 
@@ -48,7 +44,7 @@ pub record RetimedAt (net : Netlist) (p : ℕ) (r : Said) (out' : List ℕ) : Ty
   pub out : List ℕ
   pub lags : List ℤ
   pub lags' : List ℤ
-  pub room : Room (text_of (atPeriod net p)) out lags (atPeriod net p)
+  pub room : Room out lags (atPeriod net p)
   pub retimes : Retimes (text_of (atPeriod net p)) out lags r out' lags'
 
 -- "where 65,535 would be refused 8 so is the quote"
@@ -60,7 +56,7 @@ pub record AtTheQuote (net : Netlist) (p registers largest number : ℕ) (r : Sa
   pub nine : (32 < largest) ↔ ((e : ℕ) × (r ≡ atEdge 9 e))
   pub ten : largest ≤ 32 → (24 < number) ↔ (r ≡ whole 10)
   pub chosen : (k : ℕ) → r ≡ value k → k ≡ number
-  pub counts : (k : ℕ) → r ≡ value k → (new : Netlist) × Reads (take (length (text_of (atPeriod net p))) out') (value 0) new
+  pub counts : (k : ℕ) → r ≡ value k → (new : Netlist) × Reads (take (length (text_of (plain (atPeriod net p)))) out') (value 0) new
       × (registers ≡ sum (at new.count) new.edges) × (largest ≡ most (at new.count) new.edges)
 
 pub record QuotedPeriod (net : Netlist) (p registers largest number : ℕ) : Type 0 where

@@ -12,9 +12,9 @@ use Rattle.theory.specs.Clock.{Regs}
 use Rattle.theory.specs.Move.{sum}
 use Rattle.netlist.specs.declared.Netlist.{Netlist}
 use Rattle.netlist.specs.Answer.{Said, value}
-use Rattle.netlist.specs.Net.{graph_of, regs_of}
+use Rattle.netlist.specs.Net.{plain, graph_of, regs_of}
 use Rattle.netlist.specs.Read.{Reads}
-use Rattle.netlist.specs.Write.{joined}
+use Rattle.netlist.specs.Write.{joined, text_of}
 use Rattle.retime.specs.Retime.{Retimes}
 use Rattle.retime.specs.Demand.{ComesBack}
 use Rattle.rails.specs.Rails.{outward, railsAt, Rails}
@@ -77,4 +77,4 @@ RunsCounted = (G : Graph) (R : Regs) (u : ℕ) → RunsOf G R u (railsAt G R u)
 abbrev pub RetimedCounts : Type 0
 RetimedCounts = (t out : List ℕ) (lags : List ℤ) (s : Said) (out' : List ℕ) (lags' : List ℤ) (net : Netlist) (old : List ℕ) (x : Said) (new : List ℕ)
     → Reads t (value 0) net → Retimes t out lags s out' lags' → ComesBack s → net.nodes ≤ length old
-    → Rails (take (length t) out') old x new → (total : ℕ) × (x ≡ value total)
+    → Rails (take (length (text_of (plain net))) out') old x new → (total : ℕ) × (x ≡ value total)

@@ -37,14 +37,14 @@ module _ {t out : List ℕ} {lags : List ℤ} where
   unread {q} {k} {p} {net} h = record { checked = refused q k p; net = net; reads = h; lag = λ v. pos 0; choice = 0; answer = here refl; buffer = refl; table = refl }
 
   module _ {s : Said} {out' : List ℕ} {lags' : List ℤ} where
-    pub of_left : (net : Netlist) → Reads t (value 0) net → Leaves (FromShort t out lags net) net out lags s out' lags' → Retimes t out lags s out' lags'
+    pub of_left : (net : Netlist) → Reads t (value 0) net → Leaves (FromShort out lags net) net out lags s out' lags' → Retimes t out lags s out' lags'
     of_left net h x =
         record { checked = value 0; net = net; reads = h; lag = x.lag; choice = x.choice; answer = past (no_stop 0 refl) x.answer; buffer = x.buffer; table = x.table }
 
-    pub left-of : (net : Netlist) → Reads t (value 0) net → Retimes t out lags s out' lags' → Leaves (FromShort t out lags net) net out lags s out' lags'
+    pub left-of : (net : Netlist) → Reads t (value 0) net → Retimes t out lags s out' lags' → Leaves (FromShort out lags net) net out lags s out' lags'
     left-of net h o =
         let e = one-reading t o.checked (value 0) o.net net o.reads h in
-        subst (λ n. Leaves (FromShort t out lags n) n out lags s out' lags') e.1
+        subst (λ n. Leaves (FromShort out lags n) n out lags s out' lags') e.1
         (record { lag = o.lag; choice = o.choice; answer = later s (no_stop 0 e.0) o.answer; buffer = o.buffer; table = o.table })
 
     pub back-reads : {k : ℕ} (o : Retimes t out lags s out' lags') → s ≡ value k → Reads t (value 0) o.net
@@ -54,23 +54,23 @@ module _ {t out : List ℕ} {lags : List ℤ} where
         go (refused q k p) z = let y = stopped z o.answer in clash (cc)
         go (value n) z = reads-zero (subst (λ c. Reads t c o.net) z o.reads)
 
-  pub none : (net : Netlist) → Room t out lags net → NoneMeets net → Leaves (FromShort t out lags net) net out lags (whole 8) out lags
-  none net room n = record { lag = λ v. pos 0; choice = 0; answer = past (no_short room) (here (n, refl)); buffer = refl; table = refl }
+pub none : {out : List ℕ} {lags : List ℤ} (net : Netlist) → Room out lags net → NoneMeets net → Leaves (FromShort out lags net) net out lags (whole 8) out lags
+none net room n = record { lag = λ v. pos 0; choice = 0; answer = past (no_short room) (here (n, refl)); buffer = refl; table = refl }
 
-  -- Where anything is said of lags they are the least, so 8 is not said.
-  pub from-9 : {s : Said} {out' : List ℕ} {lags' : List ℤ} (net : Netlist) → Room t out lags net → Leaves (MovedBy net) net out lags s out' lags'
-      → Leaves (FromShort t out lags net) net out lags s out' lags'
-  from-9 net room x =
-      record {
-        lag = x.lag;
-        choice = x.choice;
-        answer = past (no_short room) (past (no_none net x.lag (least-said net x.lag x.choice x.answer)) x.answer);
-        buffer = x.buffer;
-        table = x.table;
-      }
+-- Where anything is said of lags they are the least, so 8 is not said.
+pub from-9 : {out : List ℕ} {lags : List ℤ} {s : Said} {out' : List ℕ} {lags' : List ℤ} (net : Netlist) → Room out lags net → Leaves (MovedBy net) net out lags s out' lags'
+    → Leaves (FromShort out lags net) net out lags s out' lags'
+from-9 net room x =
+    record {
+      lag = x.lag;
+      choice = x.choice;
+      answer = past (no_short room) (past (no_none net x.lag (least-said net x.lag x.choice x.answer)) x.answer);
+      buffer = x.buffer;
+      table = x.table;
+    }
 
-pub short : (t out : List ℕ) (lags : List ℤ) (net : Netlist) → Short t out lags net → Leaves (FromShort t out lags net) net out lags (whole 12) out lags
-short t out lags net x = record { lag = λ v. pos 0; choice = 0; answer = here (x, refl); buffer = refl; table = refl }
+pub short : (out : List ℕ) (lags : List ℤ) (net : Netlist) → Short out lags net → Leaves (FromShort out lags net) net out lags (whole 12) out lags
+short out lags net x = record { lag = λ v. pos 0; choice = 0; answer = here (x, refl); buffer = refl; table = refl }
 
 pub said : {s : Said} (out : List ℕ) (lags : List ℤ) (net : Netlist) (r : ℕ → ℤ) (c : ℕ) → MovedBy net r c s
     → Leaves (MovedBy net) net out lags s (holds s (text_of (movedNet net r c)) out) (holds s (lagTable net r) lags)

@@ -21,7 +21,8 @@ use Rattle.theory.proofs.moves.Best.{choice-bit}
 use Rattle.theory.proofs.least.Exists.{least-unique}
 use Rattle.netlist.specs.declared.Netlist.{Netlist}
 use Rattle.netlist.specs.Answer.{Said, value, refused, whole, atEdge}
-use Rattle.netlist.specs.Net.{graph_of, regs_of}
+use Rattle.netlist.specs.Net.{plain, graph_of, regs_of}
+use Rattle.netlist.specs.Write.{text_of}
 use Rattle.netlist.specs.Circuit.{BestAt, ManyAt, NarrowAt, SoundIn, StartlessAt, WideAt, choiceAt, chosenInAt}
 use Rattle.netlist.specs.inner.Words.{newCountAt}
 use Rattle.netlist.specs.Order.{here, past, Given, GivenAt}
@@ -33,13 +34,13 @@ use Rattle.retime.specs.inner.Leaves.{FromShort}
 
 -- ── The facts ───────────────────────────────────────────────────────────────────────────────
 
-pub no_short : {t out : List ℕ} {lags : List ℤ} {net : Netlist} → Room t out lags net → (x : Said) → ¬ Given (Short t out lags net) (whole 12) x
+pub no_short : {out : List ℕ} {lags : List ℤ} {net : Netlist} → Room out lags net → (x : Said) → ¬ Given (Short out lags net) (whole 12) x
 no_short room x (inl h, _) = omega (arith, room.text)
 no_short room x (inr h, _) = omega (arith, room.table)
 
-pub some-room : (t out : List ℕ) (lags : List ℤ) (net : Netlist) → ((x : Said) → ¬ Given (Short t out lags net) (whole 12) x) → Room t out lags net
-some-room t out lags net n =
-    let a : ¬ (length out < length t) = λ h. n (whole 12) (inl h, refl) in
+pub some-room : (out : List ℕ) (lags : List ℤ) (net : Netlist) → ((x : Said) → ¬ Given (Short out lags net) (whole 12) x) → Room out lags net
+some-room out lags net n =
+    let a : ¬ (length out < length (text_of (plain net))) = λ h. n (whole 12) (inl h, refl) in
     let b : ¬ (length lags < net.nodes) = λ h. n (whole 12) (inr h, refl) in
     record { text = omega arith; table = omega arith }
 
@@ -144,27 +145,27 @@ alike net ok r q m c row =
 -- ── What is said ────────────────────────────────────────────────────────────────────────────
 
 -- A netlist comes back.
-pub record Settled (t out : List ℕ) (lags : List ℤ) (net : Netlist) (r : ℕ → ℤ) (c : ℕ) : Type 0 where
-  pub room : Room t out lags net
+pub record Settled (out : List ℕ) (lags : List ℤ) (net : Netlist) (r : ℕ → ℤ) (c : ℕ) : Type 0 where
+  pub room : Room out lags net
   pub least : LeastLags net r
   pub narrow : NarrowAt net r
   pub few : ¬ ManyAt net r
   pub best : BestAt net r c
 
-module _ (t out : List ℕ) (lags : List ℤ) (net : Netlist) (r : ℕ → ℤ) (c : ℕ) where
+module _ (out : List ℕ) (lags : List ℤ) (net : Netlist) (r : ℕ → ℤ) (c : ℕ) where
   -- Of the numbers from 8 on, at the place p.
   abbrev FactAt : ℕ → ℕ → Type 0
   FactAt zero p = NoneMeets net
   FactAt (suc zero) p = LeastLags net r × WideAt net r p
   FactAt (suc (suc zero)) p = NarrowAt net r × ManyAt net r
   FactAt (suc (suc (suc zero))) p = LeastLags net r × StartlessAt net r
-  FactAt (suc (suc (suc (suc n)))) p = Short t out lags net
+  FactAt (suc (suc (suc (suc n)))) p = Short out lags net
 
   abbrev pub Fact : Said → Type 0
-  Fact (value n) = Settled t out lags net r c
+  Fact (value n) = Settled out lags net r c
   Fact (refused q k p) = FactAt (q - 8) p
 
-  pub told : {s : Said} → FromShort t out lags net r c s → Fact s
+  pub told : {s : Said} → FromShort out lags net r c s → Fact s
   told (here (h, z)) = subst Fact (sym z) h
   told (past a (here (h, z))) = subst Fact (sym z) h
   told (past a (past b (here (e, h, z)))) = subst Fact (sym z) h
@@ -172,13 +173,13 @@ module _ (t out : List ℕ) (lags : List ℤ) (net : Netlist) (r : ℕ → ℤ) 
   told (past a (past b (past w (past m (here (h, z)))))) = subst Fact (sym z) h
   told (past a (past b (past w (past m (past x ((l, h), z)))))) =
       subst Fact (sym z)
-      (record { room = some-room t out lags net a; least = l; narrow = all-narrow net r l w; few = λ k. m (whole 10) ((l, k), refl); best = h })
+      (record { room = some-room out lags net a; least = l; narrow = all-narrow net r l w; few = λ k. m (whole 10) ((l, k), refl); best = h })
 
-  pub moved_at : SoundIn net → Room t out lags net → (q : ℕ → ℤ) → LeastLags net q → {s : Said} → FromShort t out lags net r c s → MovedBy net q c s
+  pub moved_at : SoundIn net → Room out lags net → (q : ℕ → ℤ) → LeastLags net q → {s : Said} → FromShort out lags net r c s → MovedBy net q c s
   moved_at ok room q m {s} row = alike net ok r q m c (later s (no_none net q m) (later s (no_short room) row))
 
   -- The least lags are one at each node, so the rows of both from 9 on are rows of one.
-  pub one-said : SoundIn net → (q : ℕ → ℤ) (d : ℕ) {s x : Said} → FromShort t out lags net r c s → FromShort t out lags net q d x → s ≡ x
+  pub one-said : SoundIn net → (q : ℕ → ℤ) (d : ℕ) {s x : Said} → FromShort out lags net r c s → FromShort out lags net q d x → s ≡ x
   one-said ok q d =
       meet (given-one _ _)
       (meet (given-one _ _)

@@ -1,7 +1,7 @@
 -- From what a stage of the call found to what it promises.
 --   moves-refused                  `moved_by`: 9, 10, 11
---   by-refused, new-rows, by-done  `retime_by`: the same; the new netlist has as many rows; both are put, as there is room
---   own-text, labelled             `retime_net`: the text is the netlist's own; the labels are those of a legal retiming
+--   new-rows, by-done              `retime_by`: the new netlist has as many rows; both are put, as there is room
+--   labelled                       `retime_net`: the labels are those of a legal retiming
 --   Promised, promised, stop, reads, goes_on    `retime`
 use Prim.Native.Nat.{ℕ, ◌+◌, ◌≤◌, ◌<◌}
 use native.Mathlib.Omega.{arith}
@@ -21,8 +21,6 @@ use Rattle.netlist.specs.Write.{joined, text_of, textIn}
 use Rattle.netlist.proofs.Fits.{clash}
 use Rattle.netlist.proofs.Run.{fit-rows}
 use Rattle.netlist.proofs.Written.{text-put}
-use Rattle.netlist.proofs.theorems.Lines.{lines-fact}
-use Rattle.netlist.proofs.theorems.Sound.{reads-value}
 use Rattle.simulate.proofs.Answered.{says-refused, reads-done}
 use Rattle.simulate.proofs.Ran.{reads-zero}
 use Rattle.lags.proofs.Laws.{read-sure}
@@ -32,24 +30,13 @@ use Rattle.retime.specs.Retime.{LeastLags, lagTable, MovedBy, Room, Retimes}
 use Rattle.retime.specs.Demand.{Demand3}
 use Rattle.retime.specs.inner.Leaves.{FromShort, Leaves, MovesTo}
 use Rattle.retime.proofs.Call.{unread, of_left}
-use Rattle.retime.proofs.theorems.Moved.{same_length}
+use Rattle.retime.proofs.theorems.Moved.{written-length}
 use Rattle.retime.proofs.theorems.Demand.{demand-follows}
 
 pub moves-refused : (net : Netlist) (r : ℕ → ℤ) {q k p : ℕ} → MovedBy net r 0 (refused q k p) → (new : Netlist) → MovesTo net r (refused q k p) new
 moves-refused net r row new = record { choice = 0; answer = row; moved = λ n z. clash (cc) }
 
 module _ (net : Netlist) (lab : List ℕ) (out : List ℕ) (lags : List ℤ) (b : Answer) (new : Netlist) (m : MovesTo net (lagsOf lab) (says b) new) where
-  pub by-refused : {q : ℕ} {p : Place} → b ≡ Refused q p → Leaves (MovedBy net) net out lags (says b) out lags
-  by-refused e =
-      let z = sym (says-refused b e).2 in
-      record {
-        lag = lagsOf lab;
-        choice = m.choice;
-        answer = m.answer;
-        buffer = ap (λ s. holds s (text_of (movedNet net (lagsOf lab) m.choice)) out) z;
-        table = ap (λ s. holds s (lagTable net (lagsOf lab)) lags) z;
-      }
-
   module _ {k : ℕ} (e : b ≡ Done k) where
     new_is : new ≡ movedNet net (lagsOf lab) m.choice
     new_is = m.moved k (ap says e)
@@ -59,15 +46,15 @@ module _ (net : Netlist) (lab : List ℕ) (out : List ℕ) (lags : List ℤ) (b 
     unfolding movedNet
     new-rows = (ap (λ n. n.nodes) new_is, ap (λ n. n.edges) new_is)
 
-    put-room : Reads (text_of net) (value 0) net → Room (text_of net) out lags net → (new.nodes ≤ 512) × (new.edges ≤ 1024) × (length (text_of new) ≤ length out)
+    put-room : Reads (text_of net) (value 0) net → Room out lags net → (new.nodes ≤ 512) × (new.edges ≤ 1024) × (length (text_of new) ≤ length out)
     put-room h room =
         let rows = fit-rows net (read-sure (text_of net) net h).fit in (
           omega (arith, rows.0, new-rows.0),
           omega (arith, rows.1, new-rows.1),
-          omega (arith, ap (λ n. length (text_of n)) new_is, same_length (text_of net) net (lagsOf lab) m.choice h, room.text),
+          omega (arith, ap (λ n. length (text_of n)) new_is, written-length net (lagsOf lab) m.choice, room.text),
         )
 
-    pub by-done : Reads (text_of net) (value 0) net → Room (text_of net) out lags net → (out' : List ℕ) (lags' : List ℤ) → out' ≡ sets out 0 (textIn new (length out))
+    pub by-done : Reads (text_of net) (value 0) net → Room out lags net → (out' : List ℕ) (lags' : List ℤ) → out' ≡ sets out 0 (textIn new (length out))
         → lags' ≡ holds (value 0) (lagTable new (lagsOf lab)) lags → Leaves (MovedBy net) net out lags (value k) out' lags'
     by-done h room out' lags' o p =
         let (nodes, edges, fits) = put-room h room in
@@ -80,9 +67,6 @@ module _ (net : Netlist) (lab : List ℕ) (out : List ℕ) (lags : List ℤ) (b 
               ∙ ap (λ n. holds (value 0) (text_of n) out) new_is;
           table = p ∙ ap (λ n. holds (value 0) (joined (λ v. lagsOf lab v ∷ []) n) lags) new-rows.0;
         }
-
-pub own-text : (t : List ℕ) (net : Netlist) → Reads t (value 0) net → t ≡ text_of net
-own-text t net h = ((lines-fact t net).0 (reads-value h).0).2
 
 pub labelled : (t : List ℕ) (net : Netlist) (lab : List ℕ) → Reads t (value 0) net → length lab ≡ 512 → ((v : ℕ) → v < net.nodes → at lab v < 32768) → LeastLags net (lagsOf lab) → Labelled net lab
 labelled t net lab h rows small l =
@@ -104,5 +88,5 @@ module _ (t out : List ℕ) (lags : List ℤ) where
       pub reads : Reads t (value 0) net
       reads = reads-zero (reads-done a e r)
 
-      pub goes_on : (s : Said) (out' : List ℕ) (lags' : List ℤ) → Leaves (FromShort t out lags net) net out lags s out' lags' → Promised s out' lags'
+      pub goes_on : (s : Said) (out' : List ℕ) (lags' : List ℤ) → Leaves (FromShort out lags net) net out lags s out' lags' → Promised s out' lags'
       goes_on s out' lags' x = promised (of_left net reads x)

@@ -38,8 +38,8 @@ pub record Card : Type 0 where
 
 abbrev pub ClaimOf : List ℕ → Result → Type 0
 ClaimOf t (back new r chosen) = (net : Netlist) × Reads t (value 0) net × (length r ≡ net.nodes)
-    × ((out : List ℕ) (lags : List ℤ) → Room t out lags net → Retimes t out lags (value chosen) (new ++ drop (length new) out) (r ++ drop (length r) lags))
-ClaimOf t (refuses s) = (net : Netlist) × Reads t (value 0) net × ((out : List ℕ) (lags : List ℤ) → Room t out lags net → Retimes t out lags s out lags)
+    × ((out : List ℕ) (lags : List ℤ) → Room out lags net → Retimes t out lags (value chosen) (new ++ drop (length new) out) (r ++ drop (length r) lags))
+ClaimOf t (refuses s) = (net : Netlist) × Reads t (value 0) net × ((out : List ℕ) (lags : List ℤ) → Room out lags net → Retimes t out lags s out lags)
 ClaimOf t (runs vectors outputs) = (old : List ℕ) → length outputs ≤ length old → Runs t vectors old (value (length outputs)) (outputs ++ drop (length outputs) old)
 
 abbrev pub Claim : Card → Type 0

@@ -12,7 +12,7 @@ use Rattle.theory.specs.Move.{Moved, Carries}
 use Rattle.theory.specs.Retimer.{Possible}
 use Rattle.netlist.specs.declared.Netlist.{Netlist}
 use Rattle.netlist.specs.Answer.{Said, value}
-use Rattle.netlist.specs.Net.{graph_of, regs_of, delayOf}
+use Rattle.netlist.specs.Net.{plain, graph_of, regs_of, delayOf}
 use Rattle.netlist.specs.Circuit.{BestAt, ManyAt, NarrowAt, TraceIn, choiceAt}
 use Rattle.netlist.specs.Read.{Reads}
 use Rattle.netlist.specs.Write.{text_of}
@@ -28,7 +28,7 @@ Startable net = Possible gate (graph_of net) (regs_of net) (delayOf net) net.per
 -- Leave out only those whose least retiming puts over 32 registers on an edge or needs over 24 start values chosen."
 pub record Asked (t out : List ℕ) (lags : List ℤ) (net : Netlist) : Type 0 where
   pub reads : Reads t (value 0) net
-  pub room : Room t out lags net
+  pub room : Room out lags net
   pub few : (r : ℕ → ℤ) → LeastLags net r → NarrowAt net r × ¬ ManyAt net r
 
 -- "a retimed netlist comes back when retiming isn't refused."
@@ -59,5 +59,5 @@ pub record Came (t : List ℕ) (net : Netlist) (new : List ℕ) (r : ℕ → ℤ
 pub record Demand3 (t out : List ℕ) (lags : List ℤ) (s : Said) (out' : List ℕ) (lags' : List ℤ) : Type 0 where
   -- "A retimed netlist comes back exactly when some legal retiming meets the period and carries the start."
   pub exactly : (net : Netlist) → Asked t out lags net → (ComesBack s ↔ Startable net)
-  -- What comes back needs no such limit: it was within them.
-  pub came : (net : Netlist) → Reads t (value 0) net → ComesBack s → Came t net (take (length t) out') (tableLag lags')
+  -- What comes back needs no such limit: it was within them. The new text is what was to be written, at the front.
+  pub came : (net : Netlist) → Reads t (value 0) net → ComesBack s → Came t net (take (length (text_of (plain net))) out') (tableLag lags')

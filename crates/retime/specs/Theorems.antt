@@ -1,5 +1,5 @@
 -- What is to be proved of retiming, beside the call. Each is a type; proofs/theorems has a term of it.
---   SameLength, MovedReads    the new text is as long as the old one, and it reads
+--   WrittenLength, SameLength, MovedReads    the new text has the length that is to be written, which is the old one's, and it reads
 --   SomeOutcome, OneOutcome   no answer is free
 --   RetimeRefusals, UnreadFact  each number is given exactly when its fact holds and no earlier one does
 --   NothingTouched            a refusal leaves all that was lent
@@ -8,7 +8,7 @@
 use Rattle.std.specs.Prelude.{◌≡◌, ◌↔◌, List, ℕ, ◌<◌, ◌≤◌, ℤ, length}
 use Rattle.theory.specs.Lag.{up, down, Legal}
 use Rattle.netlist.specs.declared.Netlist.{Netlist}
-use Rattle.netlist.specs.Net.{graph_of, regs_of}
+use Rattle.netlist.specs.Net.{plain, graph_of, regs_of}
 use Rattle.netlist.specs.Circuit.{ManyAt, NarrowAt, StartlessAt, WideAt}
 use Rattle.netlist.specs.Answer.{Said, value, refused, whole, atEdge}
 use Rattle.netlist.specs.Read.{Reads}
@@ -17,7 +17,11 @@ use Rattle.retime.specs.Retime.{NoneMeets, LeastLags, Room, Short, Retimes}
 use Rattle.moves.specs.Moved.{movedNet}
 use Rattle.retime.specs.Demand.{ComesBack, tableLag, Demand3}
 
--- "a buffer for the new text (same length)": the moved netlist's text is as long as the original's.
+-- What is to be written, by whatever lags and choice the netlist is moved.
+abbrev pub WrittenLength : Type 0
+WrittenLength = (net : Netlist) (r : ℕ → ℤ) (c : ℕ) → length (text_of (movedNet net r c)) ≡ length (text_of (plain net))
+
+-- "a buffer for the new text (same length)": so the moved netlist's text is as long as the original's.
 abbrev pub SameLength : Type 0
 SameLength = (t : List ℕ) (net : Netlist) (r : ℕ → ℤ) (c : ℕ) → Reads t (value 0) net → length (text_of (movedNet net r c)) ≡ length t
 
@@ -36,16 +40,16 @@ OneOutcome = (t out : List ℕ) (lags : List ℤ) (s s'' : Said) (out' out'' : L
     → Retimes t out lags s out' lags' → Retimes t out lags s'' out'' lags'' → (s ≡ s'') × (out' ≡ out'') × (lags' ≡ lags'')
 
 -- Each number is given exactly when its fact holds and no earlier one does.
-pub record RetimeFacts (t out : List ℕ) (lags : List ℤ) (s : Said) (net : Netlist) : Type 0 where
-  pub twelve : (s ≡ whole 12) ↔ Short t out lags net
-  pub eight : Room t out lags net → (s ≡ whole 8) ↔ NoneMeets net
-  pub nine : Room t out lags net → (r : ℕ → ℤ) → LeastLags net r → (e : ℕ) → (s ≡ atEdge 9 e) ↔ WideAt net r e
-  pub ten : Room t out lags net → (r : ℕ → ℤ) → LeastLags net r → (s ≡ whole 10) ↔ (NarrowAt net r × ManyAt net r)
-  pub eleven : Room t out lags net → (r : ℕ → ℤ) → LeastLags net r → NarrowAt net r → ¬ ManyAt net r → (s ≡ whole 11) ↔ StartlessAt net r
+pub record RetimeFacts (out : List ℕ) (lags : List ℤ) (s : Said) (net : Netlist) : Type 0 where
+  pub twelve : (s ≡ whole 12) ↔ Short out lags net
+  pub eight : Room out lags net → (s ≡ whole 8) ↔ NoneMeets net
+  pub nine : Room out lags net → (r : ℕ → ℤ) → LeastLags net r → (e : ℕ) → (s ≡ atEdge 9 e) ↔ WideAt net r e
+  pub ten : Room out lags net → (r : ℕ → ℤ) → LeastLags net r → (s ≡ whole 10) ↔ (NarrowAt net r × ManyAt net r)
+  pub eleven : Room out lags net → (r : ℕ → ℤ) → LeastLags net r → NarrowAt net r → ¬ ManyAt net r → (s ≡ whole 11) ↔ StartlessAt net r
 
 abbrev pub RetimeRefusals : Type 0
 RetimeRefusals = (t out : List ℕ) (lags : List ℤ) (s : Said) (out' : List ℕ) (lags' : List ℤ) (net : Netlist)
-    → Reads t (value 0) net → Retimes t out lags s out' lags' → RetimeFacts t out lags s net
+    → Reads t (value 0) net → Retimes t out lags s out' lags' → RetimeFacts out lags s net
 
 -- A text that does not read is refused as reading refuses it.
 abbrev pub UnreadFact : Type 0

@@ -18,7 +18,7 @@ ghost use Rattle.retime.specs.inner.Leaves.{FromShort, Leaves, MovesTo};
 use choose::choose;
 use lags::{lag_of, least};
 use moves::{MOST_CHOSEN, chosen, new_counts, too_wide};
-use netlist::{Answer, Netlist, Place};
+use netlist::{Answer, Netlist, Place, written_len};
 use starts::moved;
 
 // A moved netlist, with how many start values were chosen; or a refusal.
@@ -92,7 +92,7 @@ fn put_both(net: Netlist, lab: &[u32], out: &mut [u8], lags: &mut [i32])
 // A netlist moved by its least labels and put out, with how many start values were chosen; or 9, 10 or 11.
 fn retime_by(net: Netlist, lab: &[u32], out: &mut [u8], lags: &mut [i32]) -> Answer
     requires reads { Reads (text_of net) (value 0) net × Labelled net lab.now × LeastLags net (lagsOf lab.now) }
-    requires room { Room (text_of net) out.old lags.old net }
+    requires room { Room out.old lags.old net }
     ensures { Leaves (MovedBy net) net out.old lags.old (says result) out.new lags.new }
 {
     let new = moved_by(net, lab);
@@ -106,12 +106,12 @@ fn retime_by(net: Netlist, lab: &[u32], out: &mut [u8], lags: &mut [i32]) -> Ans
 }
 
 // A netlist that was read, retimed: 12, 8, 9, 10 or 11, or it is put out.
-fn retime_net(net: Netlist, text: &[u8], out: &mut [u8], lags: &mut [i32]) -> Answer
-    requires { Reads text.now (value 0) net }
-    ensures { Leaves (FromShort text.now out.old lags.old net) net out.old lags.old (says result) out.new lags.new }
+fn retime_net(net: Netlist, out: &mut [u8], lags: &mut [i32]) -> Answer
+    requires { Reads (text_of net) (value 0) net }
+    ensures { Leaves (FromShort out.old lags.old net) net out.old lags.old (says result) out.new lags.new }
 {
     let nodes = net.nodes as usize;
-    if out.len() < text.len() {
+    if out.len() < written_len(net) {
         return Answer::Refused(12, Place::Whole);
     }
     if lags.len() < nodes {
@@ -136,5 +136,5 @@ pub fn retime(text: &[u8], out: &mut [u8], lags: &mut [i32]) -> Answer
         return a;
     };
     let net = reading.net;
-    retime_net(net, text, out, lags)
+    retime_net(net, out, lags)
 }

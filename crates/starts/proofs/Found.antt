@@ -14,7 +14,7 @@ use Rattle.theory.proofs.numbers.Sums.{sum_same}
 use Rattle.graph.specs.Columns.{at}
 use Rattle.gates.specs.inner.Gates.{AllBits}
 use Rattle.netlist.specs.declared.Netlist.{Netlist}
-use Rattle.netlist.specs.Net.{graph_of, regs_of}
+use Rattle.netlist.specs.Net.{withColumns, graph_of, regs_of}
 use Rattle.netlist.specs.inner.Words.{retimedAt}
 use Rattle.netlist.proofs.Lowest.{count_low}
 use Rattle.lags.proofs.Laws.{lag-label, lag-up}
@@ -22,7 +22,7 @@ use Rattle.moves.specs.inner.Labels.{lagsOf, chosenAt}
 use Rattle.moves.specs.inner.Moving.{Moving}
 use Rattle.moves.specs.inner.Chosen.{chosenWord}
 use Rattle.moves.specs.Moved.{word_of, movedNet}
-use Rattle.moves.specs.inner.Columns.{Filled, none, withColumns}
+use Rattle.moves.specs.inner.Columns.{Filled, none}
 use Rattle.moves.proofs.Labels.{from-node, low-edges, low-nodes, new-fits, new_is}
 use Rattle.moves.proofs.Moved.{with-is}
 use Rattle.starts.specs.inner.Ring.{Followed}

@@ -7,7 +7,8 @@ ghost use Rattle.moves.specs.inner.Labels.{lagsOf};
 ghost use Rattle.moves.specs.inner.Moving.{Moving};
 ghost use Rattle.moves.specs.inner.Chosen.{EdgeWords, ShortWords};
 ghost use Rattle.moves.specs.Moved.{word_of, movedNet};
-ghost use Rattle.moves.specs.inner.Columns.{Filled, none, withColumns};
+ghost use Rattle.netlist.specs.Net.{withColumns};
+ghost use Rattle.moves.specs.inner.Columns.{Filled, none};
 ghost use Rattle.starts.specs.inner.Starts.{shownSlot, startsAt};
 
 use crate::BIAS;
@@ -73,22 +74,10 @@ fn starts_of(net: Netlist, lab: &[u32], counts: &[u32], words: &[u32]) -> [u32; 
 fn with_columns(net: Netlist, count: [u8; EDGES], start: [u32; EDGES]) -> Netlist
     ensures { result ≡ withColumns net count start }
 {
-    let kind = net.kind;
-    let delay = net.delay;
-    let from = net.from;
-    let to = net.to;
-    Netlist {
-        period: net.period,
-        derate: net.derate,
-        nodes: net.nodes,
-        edges: net.edges,
-        kind,
-        delay,
-        from,
-        to,
-        count,
-        start,
-    }
+    let mut new = net;
+    new.count = count;
+    new.start = start;
+    new
 }
 
 // "Moved by lags and a choice, a netlist keeps its head, its nodes and the ends of its edges, and each edge gets its new count and new start values."

@@ -1,23 +1,7 @@
 -- Columns of the moved netlist on the way.
---   withColumns         the netlist with other columns of counts and words
 --   Filled, none        the first n rows of a column are f's, the others as they were; 0 in every row
 use Rattle.std.specs.Prelude.{◌≡◌, List, ℕ, ◌<◌, ◌≤◌}
 use Rattle.graph.specs.Columns.{at}
-use Rattle.netlist.specs.declared.Netlist.{Netlist}
-
-abbrev pub withColumns : Netlist → List ℕ → List ℕ → Netlist
-withColumns net counts words = record {
-  period = net.period;
-  derate = net.derate;
-  nodes = net.nodes;
-  edges = net.edges;
-  kind = net.kind;
-  delay = net.delay;
-  from = net.from;
-  to = net.to;
-  count = counts;
-  start = words;
-}
 
 pub record Filled (f rest : ℕ → ℕ) (n : ℕ) (xs : List ℕ) : Type 0 where
   pub rows : (e : ℕ) → e < n → at xs e ≡ f e

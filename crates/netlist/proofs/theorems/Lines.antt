@@ -10,7 +10,8 @@ use mathlib.Core.List.{List, [], ◌∷◌, ◌++◌, append-nil}
 use Rattle.frame.specs.Frame.{number_at}
 use Rattle.netlist.specs.declared.Netlist.{Netlist}
 use Rattle.netlist.specs.Answer.{Said, atLine}
-use Rattle.netlist.specs.Read.{Lines, fault, lines, nothingMore, lines_of, nodesFrom, edgesFrom}
+use Rattle.netlist.specs.Net.{netWith}
+use Rattle.netlist.specs.Read.{lineOfNode, lineOfEdge, Lines, fault, lines, nothingMore, lines_of, nodesFrom, edgesFrom}
 use Rattle.netlist.specs.Write.{text_of}
 use Rattle.netlist.specs.Theorems.{FitTo, Fit, Clean, toNode, toEdge, FaultAt, head-frame, head-range, node-frame, node-rule, edge-frame, edge-rule, surplus, LinesFact, FaultFact, FaultPlace}
 use Rattle.netlist.specs.inner.Record.{cut}
@@ -38,18 +39,7 @@ cut-clean net f c =
     let y = rowsTo-is 1024 net.edges net.to c.ends.1 rows.1 (λ i l. (c.edge i l).1) in
     let z = rowsTo-is 1024 net.edges net.count c.ends.2 rows.1 (λ i l. (c.edge i l).2) in
     let s = rowsTo-is 1024 net.edges net.start c.ends.3 rows.1 (λ i l. (c.edge i l).3) in
-    λ i. record {
-      period = net.period;
-      derate = net.derate;
-      nodes = net.nodes;
-      edges = net.edges;
-      kind = a i;
-      delay = b i;
-      from = x i;
-      to = y i;
-      count = z i;
-      start = s i;
-    }
+    λ i. netWith net.period net.derate net.nodes net.edges (a i) (b i) (x i) (y i) (z i) (s i)
 
 -- From the text to the lines: all lines are read one by one (`run-edges`), and the record so filled is the netlist. Back: what a text's lines come to has an account
 -- (`account`), and of one without a fault it says all this.
@@ -64,11 +54,11 @@ account-wrong {t} {q = q} {n = n} (wrong q' n' f) p = let a : q' ≡ q = cc in l
 
 module _ (net : Netlist) (rest : List ℕ) where
   -- A node is to come, or an edge.
-  at-node : (v : ℕ) → FitTo net v 0 → v < net.nodes → lines_of (toNode net v ++ rest) ≡ nodesFrom (suc (net.nodes - suc v)) v (v + 2) rest (cut net v 0)
+  at-node : (v : ℕ) → FitTo net v 0 → v < net.nodes → lines_of (toNode net v ++ rest) ≡ nodesFrom (suc (net.nodes - suc v)) v (lineOfNode net v) rest (cut net v 0)
   at-node v f l = run-nodes net v (suc (net.nodes - suc v)) (omega arith) f rest
 
   at_edge : (e : ℕ) → FitTo net net.nodes e → e < net.edges
-      → lines_of (toEdge net e ++ rest) ≡ edgesFrom (suc (net.edges - suc e)) e (net.nodes + e + 2) rest (cut net net.nodes e)
+      → lines_of (toEdge net e ++ rest) ≡ edgesFrom (suc (net.edges - suc e)) e (lineOfEdge net e) rest (cut net net.nodes e)
   at_edge e f l = run-edges net e (suc (net.edges - suc e)) (omega arith) f rest
 
 ends_more : (n : ℕ) (net : Netlist) (rest : List ℕ) → ¬ (rest ≡ []) → nothingMore rest n net ≡ fault (atLine 1 n)
@@ -85,7 +75,7 @@ fault-lines (edge-frame net e rest f l q p) = ap lines_of q ∙ at_edge net rest
 fault-lines (edge-rule net e rest bs more f l q p h) =
     let no = cut_fits net f e (number_at 0 2 bs) (number_at 2 2 bs) (number_at 4 1 bs) (number_at 5 4 bs) ∙ h in
     ap lines_of q ∙ at_edge net rest e f l ∙ rw (p, no)
-fault-lines (surplus net rest f q p) = ap lines_of q ∙ run-edges net net.edges 0 (omega arith) f rest ∙ ends_more (net.nodes + net.edges + 2) (cut net net.nodes net.edges) rest p
+fault-lines (surplus net rest f q p) = ap lines_of q ∙ run-edges net net.edges 0 (omega arith) f rest ∙ ends_more (lineOfEdge net net.edges) (cut net net.nodes net.edges) rest p
 
 -- The same: the lines before the fault are read one by one, then comes the fault; and back by the account.
 pub fault-fact : FaultFact

@@ -13,13 +13,13 @@ use lib.ListN.{get_or}
 use Rattle.frame.specs.Frame.{frame_at}
 use Rattle.netlist.specs.declared.Netlist.{Netlist}
 use Rattle.netlist.specs.Answer.{Said, atLine}
-use Rattle.netlist.specs.Read.{fault, lines, lines_of, All, Lowest, Judged, kept, Reads, judged}
+use Rattle.netlist.specs.Read.{lineOfNode, lineOfEdge, fault, lines, lines_of, All, Lowest, Judged, kept, Reads, judged}
 use Rattle.netlist.specs.Write.{headLine, nodeLine, edgeLine, joined, text_of}
 use Rattle.netlist.specs.Theorems.{headTest, nodeTest, edgeTest, FitTo, Fit, FaultAt, head-range, node-rule, edge-rule, Same, Typed, RecordFault, bad-head, bad-node, bad-edge, RecordFaults, RecordFact, RecordJudged}
 use Rattle.netlist.specs.inner.Record.{cut}
 use Rattle.netlist.proofs.Fits.{clash}
 use Rattle.netlist.proofs.Rows.{rowsTo-in, joined-split}
-use Rattle.netlist.proofs.Fields.{headBytes, edgeBytes, four-numbers, four-frame, nodeBytes, node-numbers, node-frame}
+use Rattle.netlist.proofs.Fields.{headFields, edgeFields, headBytes, edgeBytes, fields-read, fields-frame, nodeBytes, node-numbers, node-frame}
 use Rattle.netlist.proofs.Run.{fit-rows, fit-wired}
 use Rattle.netlist.proofs.Decide.{lowest, judge}
 use Rattle.netlist.proofs.Alike.{judged-same}
@@ -48,11 +48,11 @@ module _ (net : Netlist) (t : Typed net) where
       let d = net.derate in
       let n = net.nodes in
       let e = net.edges in
-      let x = four-numbers 2 1 2 2 p d n e t.head.0 t.head.1 t.head.2 t.head.3 in
+      let x = fields-read (headFields p d n e) (t.head.0, (t.head.1, (t.head.2, (t.head.3, tt)))) in
       let rest = joined (nodeLine net) n ++ joined (edgeLine net) e in
-      head-range (headBytes p d n e) rest (ap (frame_at 1 7) (append_assoc (headLine net) (joined (nodeLine net) n) (joined (edgeLine net) e)) ∙ four-frame 2 1 2 2 p d n e 1 rest (omega arith)) (rw (x.0, x.1, x.2, x.3) h)
+      head-range (headBytes p d n e) rest (ap (frame_at 1 7) (append_assoc (headLine net) (joined (nodeLine net) n) (joined (edgeLine net) e)) ∙ fields-frame 1 (headFields p d n e) rest (omega arith)) (rw (x.0, x.1.0, x.1.1.0, x.1.1.1.0) h)
 
-  node-breaks : (v : ℕ) → FitTo net v 0 → v < net.nodes → nodeTest net v ≡ false → FaultAt (text_of net) 3 (v + 2)
+  node-breaks : (v : ℕ) → FitTo net v 0 → v < net.nodes → nodeTest net v ≡ false → FaultAt (text_of net) 3 (lineOfNode net v)
   unfolding text_of
   node-breaks v f l h =
       let k = get_or net.kind v 0 in
@@ -64,7 +64,7 @@ module _ (net : Netlist) (t : Typed net) where
       (node-frame k d (t.node v).0 (t.node v).1 more) (rw (x.0, x.1) h)
 
   edge-breaks : (e : ℕ) → FitTo net net.nodes e → e < net.edges → edgeTest net e ≡ false
-      → FaultAt (text_of net) 4 (net.nodes + e + 2)
+      → FaultAt (text_of net) 4 (lineOfEdge net e)
   unfolding text_of
   edge-breaks e f l h =
       let u = get_or net.from e 0 in
@@ -72,9 +72,9 @@ module _ (net : Netlist) (t : Typed net) where
       let w = get_or net.count e 0 in
       let s = get_or net.start e 0 in
       let r = joined-split (edgeLine net) net.edges e l in
-      let x = four-numbers 2 2 1 4 u v w s (t.edge e).0 (t.edge e).1 (t.edge e).2 (t.edge e).3 in
+      let x = fields-read (edgeFields u v w s) ((t.edge e).0, ((t.edge e).1, ((t.edge e).2, ((t.edge e).3, tt)))) in
       edge-rule net e (edgeLine net e ++ r.0) (edgeBytes u v w s) r.0 f l (ap (λ y. headLine net ++ joined (nodeLine net) net.nodes ++ y) r.1 ∙ simp append_assoc)
-      (four-frame 2 2 1 4 u v w s 3 r.0 (omega arith)) (rw (x.0, x.1, x.2, x.3) h)
+      (fields-frame 3 (edgeFields u v w s) r.0 (omega arith)) (rw (x.0, x.1.0, x.1.1.0, x.1.1.1.0) h)
 
 module _ (net : Netlist) where
   module _ (head : headTest net ≡ true) where
@@ -83,7 +83,7 @@ module _ (net : Netlist) where
         ⊎_elim
         (λ r.
         let f : FitTo net net.nodes r.0 = record { head = head; node = nodes; edge = r.1.before } in
-        breaks 4 (net.nodes + r.0 + 2) (bad-edge r.0 f r.1.there (fails (edgeTest net r.0) r.1.breaks)))
+        breaks 4 (lineOfEdge net r.0) (bad-edge r.0 f r.1.there (fails (edgeTest net r.0) r.1.breaks)))
         (λ edges. fits (record { head = head; node = nodes; edge = edges }))
         (first-false (edgeTest net) net.edges)
 
@@ -92,7 +92,7 @@ module _ (net : Netlist) where
         ⊎_elim
         (λ r.
         let f : FitTo net r.0 0 = record { head = head; node = r.1.before; edge = λ e l. absurd (omega arith) } in
-        breaks 3 (r.0 + 2) (bad-node r.0 f r.1.there (fails (nodeTest net r.0) r.1.breaks)))
+        breaks 3 (lineOfNode net r.0) (bad-node r.0 f r.1.there (fails (nodeTest net r.0) r.1.breaks)))
         by-edges
         (first-false (nodeTest net) net.nodes)
 

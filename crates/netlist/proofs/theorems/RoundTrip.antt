@@ -20,14 +20,14 @@ use Rattle.netlist.proofs.theorems.One.{one-reading}
 use Rattle.netlist.proofs.theorems.Lines.{lines-fact}
 use Rattle.netlist.proofs.theorems.Refusals.{judged-zero}
 use Rattle.netlist.proofs.theorems.Record.{record-fact}
-use Rattle.netlist.proofs.theorems.Sound.{reads-value}
+use Rattle.netlist.proofs.theorems.Sound.{reads-value, reads-text}
 
 -- ── Read and written ────────────────────────────────────────────────────────────────────────
 
 -- What was read has the text for its own (`lines-fact`), so it is checked as it was read, and there is room.
 pub round-trip-text : RoundTripText
 round-trip-text t net old s new r room w =
-    let e : t ≡ text_of net = ((lines-fact t net).0 (reads-value r).0).2 in
+    let e : t ≡ text_of net = reads-text r in
     let c : w.checked ≡ value 0 = (one-reading t w.checked (value 0) w.same net (subst (λ x. Reads x w.checked w.same) (sym e) w.check) r).0 in
     let a : s ≡ value (length t) =
     else-one (stops-one w.checked) (needs-one _ _) s _ w.answer

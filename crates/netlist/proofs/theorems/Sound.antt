@@ -1,7 +1,8 @@
 -- What reads is a sound circuit.
 --   fault-refuses       a line's fault is a refusal
 --   reads-value         so a reading that refuses nothing is of lines that have no fault
---   reads-keeps         and of a netlist that keeps the rules
+--   reads-text          whose text it is
+--   reads-keeps         and that keeps the rules
 --   read-is-sound
 use Prim.Native.Nat.{ℕ}
 use native.Mathlib.Omega.{arith}
@@ -11,6 +12,7 @@ use Rattle.theory.proofs.clocks.Gate.{gate-bit}
 use Rattle.netlist.specs.declared.Netlist.{Netlist}
 use Rattle.netlist.specs.Answer.{value}
 use Rattle.netlist.specs.Read.{Lines, fault, lines, lines_of, Judged, Reads, faulty, judged}
+use Rattle.netlist.specs.Write.{text_of}
 use Rattle.netlist.specs.Theorems.{Keeps, ReadIsSound}
 use Rattle.netlist.proofs.Fits.{clash}
 use Rattle.netlist.proofs.Run.{fit-wired}
@@ -25,6 +27,9 @@ fault-refuses (wrong k n f) q = clash (cc)
 pub reads-value : {t : List ℕ} {n : ℕ} {net : Netlist} → Reads t (value n) net → (lines_of t ≡ lines net) × Judged net (value n)
 reads-value {t} (faulty p q) = absurd (fault-refuses (account t) p)
 reads-value {n = n} (judged m p j q) = (p ∙ ap lines (sym q), subst (λ x. Judged x (value n)) (sym q) j)
+
+pub reads-text : {t : List ℕ} {n : ℕ} {net : Netlist} → Reads t (value n) net → t ≡ text_of net
+reads-text {t} {net = net} r = ((lines-fact t net).0 (reads-value r).0).2
 
 pub reads-keeps : {t : List ℕ} {n : ℕ} {net : Netlist} → Reads t (value n) net → Keeps net
 reads-keeps {t} {net = net} r = let k = reads-value r in judged-keeps net ((lines-fact t net).0 k.0).0 k.1

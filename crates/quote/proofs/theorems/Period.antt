@@ -9,6 +9,7 @@ use borrow.Author.Tests.{le-leb}
 use Rattle.theory.proofs.least.Exists.{feasible-longer}
 use Rattle.rules.specs.Rules.{headFits}
 use Rattle.frame.specs.Frame.{within}
+use Rattle.netlist.specs.Net.{atPeriod}
 use Rattle.netlist.specs.Read.{judged}
 use Rattle.netlist.specs.Write.{text_of}
 use Rattle.netlist.proofs.Fits.{both}
@@ -16,7 +17,7 @@ use Rattle.netlist.proofs.Judged.{judged-sound}
 use Rattle.netlist.proofs.Order.{else-map, given-at-map}
 use Rattle.netlist.proofs.theorems.Lines.{lines-fact}
 use Rattle.netlist.proofs.theorems.Sound.{reads-value, reads-keeps}
-use Rattle.quote.specs.Theorems.{LongerForbidsLess, atPeriod, PeriodReads, PeriodPlaysNoPart}
+use Rattle.quote.specs.Theorems.{LongerForbidsLess, PeriodReads, PeriodPlaysNoPart}
 use Rattle.quote.proofs.Call.{of-net, net-of}
 
 pub longer-forbids-less : LongerForbidsLess

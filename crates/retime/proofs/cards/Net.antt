@@ -21,7 +21,7 @@ use Rattle.theory.proofs.cards.Table.{in-line}
 use Rattle.theory.proofs.cards.Table as Table
 use Rattle.netlist.specs.declared.Netlist.{Netlist}
 use Rattle.netlist.specs.Answer.{whole, atEdge}
-use Rattle.netlist.specs.Net.{zeros, graph_of, regs_of, rounded, working, delayOf}
+use Rattle.netlist.specs.Net.{zeros, netWith, graph_of, regs_of, rounded, working, delayOf}
 use Rattle.netlist.proofs.theorems.Halves.{rounded-whole}
 use Rattle.netlist.specs.Write.{joined, text_of}
 use Rattle.netlist.proofs.Rows.{zeros-at}
@@ -43,18 +43,9 @@ padded-at m l i = go (dec_lt i (length l))
 
 -- On every card the derate is 100.
 unfoldable pub netOf : Rows → ℕ → Netlist
-netOf t period = record {
-  period = period;
-  derate = 100;
-  nodes = length t.kind;
-  edges = length t.src;
-  kind = padded 512 t.kind;
-  delay = padded 512 t.delay;
-  from = padded 1024 t.src;
-  to = padded 1024 t.dst;
-  count = padded 1024 t.count;
-  start = padded 1024 t.start;
-}
+netOf t period =
+    netWith period 100 (length t.kind) (length t.src)
+    (padded 512 t.kind) (padded 512 t.delay) (padded 1024 t.src) (padded 1024 t.dst) (padded 1024 t.count) (padded 1024 t.start)
 
 module _ (t : Rows) (period : ℕ) where
   pub graph_is : graph_of (netOf t period) ≡ graph t

@@ -29,7 +29,7 @@ use Rattle.theory.proofs.retimer.Demand.{demand}
 use Rattle.theory.proofs.retimer.Levels.{lag-chosen}
 use Rattle.netlist.specs.declared.Netlist.{Netlist}
 use Rattle.netlist.specs.Answer.{Said, value, holds}
-use Rattle.netlist.specs.Net.{graph_of, regs_of, delayOf}
+use Rattle.netlist.specs.Net.{plain, graph_of, regs_of, delayOf}
 use Rattle.netlist.specs.Circuit.{BestAt, NarrowAt, SoundIn, TraceIn, choiceAt}
 use Rattle.netlist.specs.inner.Words.{LegalAt, PinIn, newCountAt, retimedAt}
 use Rattle.netlist.specs.Read.{Reads}
@@ -50,7 +50,7 @@ use Rattle.moves.proofs.Lags.{least-alike, best-alike}
 use Rattle.retime.specs.inner.Leaves.{FromShort, Leaves}
 use Rattle.retime.proofs.Order.{no-wide, no-many, no-startless, narrow-alike, few-alike, Settled, Fact, told, moved_at}
 use Rattle.retime.proofs.Call.{left-of}
-use Rattle.retime.proofs.theorems.Moved.{same_length, moved-reads, moved-regs, moved-circuit, moved-alike}
+use Rattle.retime.proofs.theorems.Moved.{written-length, moved-reads, moved-regs, moved-circuit, moved-alike}
 
 -- ── Both texts run alike ────────────────────────────────────────────────────────────────────
 
@@ -105,11 +105,11 @@ module _ (t : List ℕ) (net : Netlist) (r : ℕ → ℤ) (c : ℕ) (h : Reads t
 -- ── The call ────────────────────────────────────────────────────────────────────────────────
 
 module _ (t out : List ℕ) (lags : List ℤ) (s : Said) (out' : List ℕ) (lags' : List ℤ) (net : Netlist) (h : Reads t (value 0) net) (o : Retimes t out lags s out' lags') where
-  left : Leaves (FromShort t out lags net) net out lags s out' lags'
+  left : Leaves (FromShort out lags net) net out lags s out' lags'
   left = left-of net h o
 
-  settled : ComesBack s → Settled t out lags net left.lag left.choice
-  settled (k, p) = subst (Fact t out lags net left.lag left.choice) p (told t out lags net left.lag left.choice left.answer)
+  settled : ComesBack s → Settled out lags net left.lag left.choice
+  settled (k, p) = subst (Fact out lags net left.lag left.choice) p (told out lags net left.lag left.choice left.answer)
 
   -- A call that comes back had room, and was within the limits of 9 and 10, as the least lags are one at each node.
   pub comes-asked : ComesBack s → Asked t out lags net
@@ -133,10 +133,10 @@ module _ (t out : List ℕ) (lags : List ℤ) (s : Said) (out' : List ℕ) (lags
       let ok = read-is-sound t net h in
       let (r, c, a) = (demand gate (graph_of net) (regs_of net) ok (delayOf net) net.period).comes_back p in
       let (narrow, few) = asked.few r a.least in
-      let row = moved_at t out lags net left.lag left.choice ok asked.room r a.least left.answer in
+      let row = moved_at out lags net left.lag left.choice ok asked.room r a.least left.answer in
       (_, (later s (no-startless net r c a.best) (later s (no-many net r few) (later s (no-wide net r narrow) row))).1)
 
-  came : ComesBack s → Came t net (take (length t) out') (tableLag lags')
+  came : ComesBack s → Came t net (take (length (text_of (plain net))) out') (tableLag lags')
   came (k, p) =
       let f = settled (k, p) in
       let ok = read-is-sound t net h in
@@ -145,9 +145,10 @@ module _ (t out : List ℕ) (lags : List ℤ) (s : Said) (out' : List ℕ) (lags
       let q : ℕ → ℤ = tableLag lags' in
       let table : lags' ≡ lagTable net r ++ drop (length (lagTable net r)) lags = left.table ∙ ap (λ a. holds a (lagTable net r) lags) p in
       let same : (v : ℕ) → v < net.nodes → r v ≡ q v = λ v hv. sym (ap (λ a. tableLag a v) table ∙ rows_at r (pos 0) net.nodes v (drop (length (lagTable net r)) lags) hv) in
-      let text : take (length t) out' ≡ text_of (movedNet net q c) =
-      ap (take (length t)) (left.buffer ∙ ap (λ a. holds a (text_of (movedNet net r c)) out) p)
-      ∙ take_at (text_of (movedNet net r c)) (drop (length (text_of (movedNet net r c))) out) (length t) (same_length t net r c h)
+      let n = length (text_of (plain net)) in
+      let text : take n out' ≡ text_of (movedNet net q c) =
+      ap (take n) (left.buffer ∙ ap (λ a. holds a (text_of (movedNet net r c)) out) p)
+      ∙ take_at (text_of (movedNet net r c)) (drop (length (text_of (movedNet net r c))) out) n (written-length net r c)
       ∙ ap text_of (moved-alike net r q c ok.wired same) in
       let least = least-alike gate (graph_of net) ok.wired (regs_of net) r q same (delayOf net) net.period f.least in
       let narrow = ((comes-asked (k, p)).few q least).0 in

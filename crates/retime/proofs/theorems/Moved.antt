@@ -1,5 +1,5 @@
 -- The moved netlist: its text is as long as the original's and reads, and its circuit is the retimed one.
---   same_length, moved-reads
+--   written-length, same_length, moved-reads
 --   moved-regs          its registers are the retimed ones
 --   moved-circuit       so they are those of the paper's three cases, on whatever inputs the original runs
 --   moved-alike         it depends on the lags of the nodes only
@@ -19,24 +19,26 @@ use Rattle.theory.proofs.moves.Retime.{new-moved-any}
 use Rattle.theory.proofs.retimer.Kept.{sound-new}
 use Rattle.netlist.specs.declared.Netlist.{Netlist}
 use Rattle.netlist.specs.Answer.{value}
-use Rattle.netlist.specs.Net.{graph_of, regs_of}
+use Rattle.netlist.specs.Net.{plain, graph_of, regs_of}
 use Rattle.netlist.specs.Circuit.{TraceIn, choiceAt}
 use Rattle.netlist.specs.inner.Words.{LegalAt, retimedAt}
 use Rattle.netlist.specs.Read.{Reads}
 use Rattle.netlist.proofs.Run.{fit-rows}
 use Rattle.netlist.proofs.Written.{text-length}
 use Rattle.netlist.proofs.theorems.Lines.{lines-fact}
-use Rattle.netlist.proofs.theorems.Sound.{reads-value, read-is-sound}
+use Rattle.netlist.proofs.theorems.Sound.{reads-value, reads-text, read-is-sound}
 use Rattle.moves.specs.Moved.{movedNet}
-use Rattle.retime.specs.Theorems.{SameLength, MovedReads}
+use Rattle.retime.specs.Theorems.{WrittenLength, SameLength, MovedReads}
 use Rattle.moves.proofs.Lags.{regs-alike}
 use Rattle.moves.proofs.Moved.{with-same, with-regs, with-reads}
 
 -- A text's length depends on how many nodes and edges it has.
-pub same_length : SameLength
+pub written-length : WrittenLength
 unfolding movedNet
-same_length t net r c h =
-    text-length (movedNet net r c) ∙ sym (text-length net) ∙ ap length (sym ((lines-fact t net).0 (reads-value h).0).2)
+written-length net r c = text-length (movedNet net r c) ∙ sym (text-length (plain net))
+
+pub same_length : SameLength
+same_length t net r c h = written-length net r c ∙ ap length (sym (reads-text h))
 
 module _ (t : List ℕ) (net : Netlist) (r : ℕ → ℤ) (c : ℕ) (h : Reads t (value 0) net) (legal : LegalAt net r) where
   moved-sound : Sound gate (graph_of net) (retimedAt net r c)

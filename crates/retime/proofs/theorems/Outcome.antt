@@ -15,7 +15,7 @@ use Rattle.theory.proofs.moves.Best.{best-unique}
 use Rattle.theory.proofs.retimer.Demand.{demand}
 use Rattle.netlist.specs.declared.Netlist.{Netlist}
 use Rattle.netlist.specs.Answer.{Said, value, refused, holds}
-use Rattle.netlist.specs.Net.{graph_of, regs_of, delayOf}
+use Rattle.netlist.specs.Net.{plain, graph_of, regs_of, delayOf}
 use Rattle.netlist.specs.Circuit.{SoundIn}
 use Rattle.netlist.specs.Read.{Reads}
 use Rattle.netlist.specs.Write.{text_of}
@@ -33,14 +33,14 @@ use Rattle.retime.proofs.theorems.Refusals.{unread-fact, nothing-touched}
 
 -- ── One only ────────────────────────────────────────────────────────────────────────────────
 
-module _ (t out : List ℕ) (lags : List ℤ) (net : Netlist) (ok : SoundIn net) (r q : ℕ → ℤ) (c d : ℕ) where
+module _ (out : List ℕ) (lags : List ℤ) (net : Netlist) (ok : SoundIn net) (r q : ℕ → ℤ) (c d : ℕ) where
   -- The least lags are one at each node, so the smallest number is one, and the netlist moved by them.
-  one_left : (s : Said) → FromShort t out lags net r c s → FromShort t out lags net q d s
+  one_left : (s : Said) → FromShort out lags net r c s → FromShort out lags net q d s
       → (holds s (text_of (movedNet net r c)) out ≡ holds s (text_of (movedNet net q d)) out) × (holds s (lagTable net r) lags ≡ holds s (lagTable net q) lags)
   one_left (refused _ _ _) a b = (refl, refl)
   one_left (value k) a b =
-      let f = told t out lags net r c a in
-      let g = told t out lags net q d b in
+      let f = told out lags net r c a in
+      let g = told out lags net q d b in
       let same = least-unique r q f.least g.least in
       let number : c ≡ d = best-unique gate (graph_of net) (regs_of net) q c d (best-alike gate (graph_of net) (regs_of net) ok r q f.least.feasible.legal same c f.best) g.best in (
         ap (λ n. text_of n ++ drop (length (text_of n)) out) (moved-alike net r q c ok.wired same ∙ ap (movedNet net q) number),
@@ -61,8 +61,8 @@ one-outcome t out lags s s'' out' out'' lags' lags'' a b =
     let x = left-of net h a in
     let y = left-of net h b in
     let ok = read-is-sound t net h in
-    let e = one-said t out lags net x.lag x.choice ok y.lag y.choice x.answer y.answer in
-    let l = one_left t out lags net ok x.lag y.lag x.choice y.choice s x.answer (subst (FromShort t out lags net y.lag y.choice) (sym e) y.answer) in (
+    let e = one-said out lags net x.lag x.choice ok y.lag y.choice x.answer y.answer in
+    let l = one_left out lags net ok x.lag y.lag x.choice y.choice s x.answer (subst (FromShort out lags net y.lag y.choice) (sym e) y.answer) in (
       e,
       x.buffer ∙ l.0 ∙ ap (λ z. holds z (text_of (movedNet net y.lag y.choice)) out) e ∙ sym y.buffer,
       x.table ∙ l.1 ∙ ap (λ z. holds z (lagTable net y.lag) lags) e ∙ sym y.table,
@@ -76,7 +76,7 @@ module _ (t out : List ℕ) (lags : List ℤ) where
   Some = (s : Said) × (out' : List ℕ) × (lags' : List ℤ) × Retimes t out lags s out' lags'
 
   -- There is room: the theory's verdict.
-  module _ (net : Netlist) (h : Reads t (value 0) net) (room : Room t out lags net) where
+  module _ (net : Netlist) (h : Reads t (value 0) net) (room : Room out lags net) where
     says : (r : ℕ → ℤ) (c : ℕ) {s : Said} → MovedBy net r c s → Some
     says r c row = (_, _, _, of_left net h (from-9 net room (said out lags net r c row)))
 
@@ -88,11 +88,11 @@ module _ (t out : List ℕ) (lags : List ℤ) where
     with-room (answered r c x n m) = says r c (moved net r c x.least n m x.best)
 
   reads-some : (net : Netlist) → Reads t (value 0) net → Some
-  reads-some net h = go (dec_lt (length out) (length t)) (dec_lt (length lags) net.nodes)
+  reads-some net h = go (dec_lt (length out) (length (text_of (plain net)))) (dec_lt (length lags) net.nodes)
     where
-      go : Dec (length out < length t) → Dec (length lags < net.nodes) → Some
-      go (yes a) b = (_, _, _, of_left net h (short t out lags net (inl a)))
-      go (no a) (yes b) = (_, _, _, of_left net h (short t out lags net (inr b)))
+      go : Dec (length out < length (text_of (plain net))) → Dec (length lags < net.nodes) → Some
+      go (yes a) b = (_, _, _, of_left net h (short out lags net (inl a)))
+      go (no a) (yes b) = (_, _, _, of_left net h (short out lags net (inr b)))
       go (no a) (no b) =
           with-room net h (record { text = omega arith; table = omega arith }) (demand gate (graph_of net) (regs_of net) (read-is-sound t net h) (delayOf net) net.period).verdict
 

@@ -21,18 +21,18 @@ use Rattle.retime.specs.inner.Leaves.{FromShort}
 use Rattle.retime.proofs.Order.{no_short, no_none, no-wide, no-many, lowest-one, Fact, told, moved_at}
 use Rattle.retime.proofs.Call.{left-of}
 
-module _ (t out : List ℕ) (lags : List ℤ) (s : Said) (net : Netlist) (h : Reads t (value 0) net) (r : ℕ → ℤ) (c : ℕ) (row : FromShort t out lags net r c s) where
-  fact : (x : Said) → s ≡ x → Fact t out lags net r c x
-  fact x p = subst (Fact t out lags net r c) p (told t out lags net r c row)
+module _ (t out : List ℕ) (lags : List ℤ) (s : Said) (net : Netlist) (h : Reads t (value 0) net) (r : ℕ → ℤ) (c : ℕ) (row : FromShort out lags net r c s) where
+  fact : (x : Said) → s ≡ x → Fact out lags net r c x
+  fact x p = subst (Fact out lags net r c) p (told out lags net r c row)
 
-  module _ (room : Room t out lags net) (q : ℕ → ℤ) (l : LeastLags net q) where
+  module _ (room : Room out lags net) (q : ℕ → ℤ) (l : LeastLags net q) where
     from-9 : MovedBy net q c s
-    from-9 = moved_at t out lags net r c (read-is-sound t net h) room q l row
+    from-9 = moved_at out lags net r c (read-is-sound t net h) room q l row
 
-    fact_of : (x : Said) → s ≡ x → Fact t out lags net q c x
-    fact_of x p = subst (Fact t out lags net q c) p (told t out lags net q c (past (no_short room) (past (no_none net q l) from-9)))
+    fact_of : (x : Said) → s ≡ x → Fact out lags net q c x
+    fact_of x p = subst (Fact out lags net q c) p (told out lags net q c (past (no_short room) (past (no_none net q l) from-9)))
 
-  facts : RetimeFacts t out lags s net
+  facts : RetimeFacts out lags s net
   facts = record {
     twelve = (fact (whole 12), λ f. decides (given-one _ _) (f, refl) row);
     eight = λ room. (fact (whole 8), λ f. decides (given-one _ _) (f, refl) (later s (no_short room) row));

@@ -10,8 +10,8 @@ use Rattle.netlist.specs.Write.{text_of}
 use Rattle.moves.specs.Moved.{movedNet}
 use Rattle.retime.specs.Retime.{NoneMeets, lagTable, MovedBy, Short}
 
-abbrev pub FromShort : List ℕ → List ℕ → List ℤ → Netlist → (ℕ → ℤ) → ℕ → Said → Type 0
-FromShort t out lags net r c = Given (Short t out lags net) (whole 12) orElse Given (NoneMeets net) (whole 8) orElse MovedBy net r c
+abbrev pub FromShort : List ℕ → List ℤ → Netlist → (ℕ → ℤ) → ℕ → Said → Type 0
+FromShort out lags net r c = Given (Short out lags net) (whole 12) orElse Given (NoneMeets net) (whole 8) orElse MovedBy net r c
 
 pub record Leaves (F : (ℕ → ℤ) → ℕ → Said → Type 0) (net : Netlist) (out : List ℕ) (lags : List ℤ) (s : Said) (out' : List ℕ) (lags' : List ℤ) : Type 0 where
   pub lag : ℕ → ℤ

@@ -13,7 +13,7 @@ use Rattle.netlist.specs.Read.{Reads}
 use Rattle.netlist.specs.Write.{text_of}
 use Rattle.netlist.proofs.theorems.One.{one-reading}
 use Rattle.netlist.proofs.theorems.Lines.{lines-fact}
-use Rattle.netlist.proofs.theorems.Sound.{reads-value, read-is-sound}
+use Rattle.netlist.proofs.theorems.Sound.{reads-value, reads-text, read-is-sound}
 use Rattle.simulate.specs.declared.Machine.{Machine}
 use Rattle.simulate.specs.Clock.{inputs, outputs, outputValues, wordsAfter}
 use Rattle.simulate.specs.Step.{stepFits, Steps}
@@ -28,7 +28,7 @@ unfolding clocksFrom
 run-is-stepping t net m m' n o vectors old new r w =
     let vector = take (inputs net) vectors in
     let back = w.same in
-    let e : t ≡ text_of net = ((lines-fact t net).0 (reads-value r).0).2 in
+    let e : t ≡ text_of net = reads-text r in
     let c = one-reading (text_of net) w.checked (value 0) back net w.check (subst (λ x. Reads x (value 0) net) e r) in
     let answer = subst (λ k. Row w.checked (stepFits k m.words vector) (outputs k) (length old) (value o)) c.1 w.answer in
     let number = (step-goes w.checked net m.words vector (length old) o answer).number in

@@ -27,7 +27,7 @@ use Rattle.rules.specs.Rules.{every}
 use Rattle.netlist.specs.Write.{headLine, nodeLine, edgeLine, joined, text_of}
 use Rattle.netlist.proofs.Fits.{head-fits}
 use Rattle.netlist.proofs.Order.{stopped}
-use Rattle.netlist.proofs.Fields.{headBytes, four-numbers, four-frame}
+use Rattle.netlist.proofs.Fields.{headFields, fieldsOf, fields-read, fields-frame}
 use Rattle.netlist.proofs.theorems.Lines.{lines-fact}
 use Rattle.netlist.proofs.theorems.Sound.{reads-value, read-is-sound}
 use Rattle.netlist.proofs.theorems.RoundTrip.{same_text}
@@ -45,14 +45,14 @@ number-below zero x = omega arith
 number-below (suc n) x = omega (arith, number_append (bytes_of n (x / 256)) (x % 256 ∷ []), number-below n (x / 256))
 
 head_of : Netlist → List ℕ
-head_of net = headBytes net.period net.derate net.nodes net.edges
+head_of net = fieldsOf (headFields net.period net.derate net.nodes net.edges)
 
 head_read : (net : Netlist) → frame_at 1 7 (text_of net) ≡ line (head_of net) (joined (nodeLine net) net.nodes ++ joined (edgeLine net) net.edges)
 unfolding text_of head_of
 head_read net =
     let rest = joined (nodeLine net) net.nodes ++ joined (edgeLine net) net.edges in
     ap (frame_at 1 7) (append_assoc (headLine net) (joined (nodeLine net) net.nodes) (joined (edgeLine net) net.edges))
-    ∙ four-frame 2 1 2 2 net.period net.derate net.nodes net.edges 1 rest (omega arith)
+    ∙ fields-frame 1 (headFields net.period net.derate net.nodes net.edges) rest (omega arith)
 
 last-number : (net : Netlist) → number_at 5 2 (head_of net) ≤ net.edges
 unfolding head_of
@@ -69,12 +69,12 @@ unfolding head_of
 edges-read net back r =
     let f = (lines-fact (text_of net) back).0 (reads-value r).0 in
     let h = head-fits back.period back.derate back.nodes back.edges f.0.head in
-    let x = four-numbers 2 1 2 2 back.period back.derate back.nodes back.edges (omega arith) (omega arith) (omega arith) (omega arith) in
+    let x = fields-read (headFields back.period back.derate back.nodes back.edges) (omega arith, (omega arith, (omega arith, (omega arith, tt)))) in
     let a = head_read net in
     let b = head_read back in
     let t = f.2 in
     let e : head_of net ≡ head_of back = cc in
-    omega (arith, last-number net, ap (number_at 5 2) e, x.3)
+    omega (arith, last-number net, ap (number_at 5 2) e, x.1.1.1.0)
 
 fit_same : (net : Netlist) (words words' : List ℕ) (n : ℕ) → ((e : ℕ) → e < n → get_or words e 0 ≡ get_or words' e 0) → wordsFit net words n ≡ wordsFit net words' n
 unfolding wordsFit

@@ -1,15 +1,15 @@
-use Rattle.std.proofs.Common.{◌≡◌, ℕ, suc, ◌+◌, ◌-◌, ◌<◌, ◌≤◌, List, arith, ap, sym, ◌∙◌, drop}
+use Rattle.std.proofs.Common.{◌≡◌, ℕ, suc, ◌+◌, ◌-◌, ◌<◌, List, arith, ap, sym, ◌∙◌, drop}
 use Rattle.std.proofs.lemmas.Bool.{not-true, not-false}
 use Rattle.netlist.specs.declared.Netlist.{Netlist}
 use Rattle.netlist.specs.Net.{graph_of}
 use Rattle.rules.specs.Rules.{edgeFits}
 use Rattle.netlist.specs.Read.{Lines, edgesFrom}
-use Rattle.netlist.proofs.Stages.{opened, closed, edge_none, edge-wrong, edge-good, goes-fault, empty-sizes}
+use Rattle.netlist.proofs.Stages.{opened, closed, edge_none, edge-wrong, edge-good, goes-fault, empty-bounds}
 use Rattle.netlist.proofs.lines.read_edges.Goals as goal
 
 -- The next line is the first of those that are left.
-left : (n e b : ℕ) (l : List ℕ) (net : Netlist) {whole : Lines} → e < n → edgesFrom (n - e) e (b + e) l net ≡ whole
-    → edgesFrom (suc (n - (e + 1))) e (b + e) l net ≡ whole
+left : (n e b : ℕ) (l : List ℕ) (net : Netlist) {whole : Lines} → e < n → edgesFrom (n - e) e b l net ≡ whole
+    → edgesFrom (suc (n - (e + 1))) e b l net ≡ whole
 left n e b l net h p = let q : n - e ≡ suc (n - (e + 1)) = omega arith in rw q at p
 
 pub returns-then-not-f-clause-goes : goal.returns-then-not-f-clause-goes
@@ -18,11 +18,11 @@ returns-then-not-f-clause-goes c =
     let net₀ = c.args.net0 in
     let l = c.loop-e in
     let none = closed 3 9 l.at t _ (c.frame_by-f.ensures c.requires.digits) (omega arith) (not-true _ c.if-not-f.true) in
-    let here = left net₀.edges l.e (2 + net₀.nodes) (drop l.at t) l.net c.loop-e-test.true l.invariant.3 in
-    goes-fault _ c.fault.ensures.0 c.fault.ensures.1 (sym here ∙ edge_none t l.at _ l.e (2 + net₀.nodes) l.net none)
+    let here = left net₀.edges l.e l.line (drop l.at t) l.net c.loop-e-test.true l.invariant.3 in
+    goes-fault _ c.fault.ensures.0 c.fault.ensures.1 (sym here ∙ edge_none t l.at _ l.e l.line l.net none)
 
-pub returns-then-not-f-clause-nodes_bound_2 : goal.returns-then-not-f-clause-nodes_bound_2
-returns-then-not-f-clause-nodes_bound_2 c = empty-sizes c.fault.ensures.1
+pub returns-then-not-f-clause-bounds_left : goal.returns-then-not-f-clause-bounds_left
+returns-then-not-f-clause-bounds_left c = empty-bounds c.fault.ensures
 
 pub returns-then-not-edge_fits-clause-goes : goal.returns-then-not-edge_fits-clause-goes
 returns-then-not-edge_fits-clause-goes c =
@@ -33,12 +33,12 @@ returns-then-not-edge_fits-clause-goes c =
     let s = c.edge_row-row.ensures in
     let line = opened 3 9 l.at t _ (c.frame_by-f.ensures c.requires.digits) (omega arith) (not-false _ c.if-not-f.false) in
     let wrong = ap (λ n. edgeFits n (graph_of l.net).kind r.from r.to r.count r.start) l.invariant.1 ∙ sym c.edge_fits.ensures ∙ c.if-not-edge_fits.true in
-    let here = left net₀.edges l.e (2 + net₀.nodes) (drop l.at t) l.net c.loop-e-test.true l.invariant.3 in
+    let here = left net₀.edges l.e l.line (drop l.at t) l.net c.loop-e-test.true l.invariant.3 in
     goes-fault _ c.fault-then-not-edge_fits.ensures.0 c.fault-then-not-edge_fits.ensures.1
-    (sym here ∙ edge-wrong t l.at _ l.e (2 + net₀.nodes) l.net _ line _ _ _ _ s.from_value.0 s.from_value.1 s.from_value.2 s.start_value wrong)
+    (sym here ∙ edge-wrong t l.at _ l.e l.line l.net _ line _ _ _ _ s.from_value.0 s.from_value.1 s.from_value.2 s.start_value wrong)
 
-pub returns-then-not-edge_fits-clause-nodes_bound_2 : goal.returns-then-not-edge_fits-clause-nodes_bound_2
-returns-then-not-edge_fits-clause-nodes_bound_2 c = empty-sizes c.fault-then-not-edge_fits.ensures.1
+pub returns-then-not-edge_fits-clause-bounds_left : goal.returns-then-not-edge_fits-clause-bounds_left
+returns-then-not-edge_fits-clause-bounds_left c = empty-bounds c.fault-then-not-edge_fits.ensures
 
 pub overflow_add-at : goal.overflow_add-at
 overflow_add-at c =
@@ -54,12 +54,13 @@ loop-e-preserved c =
     let s = c.edge_row-row.ensures in
     let line = opened 3 9 l.at t _ (c.frame_by-f.ensures c.requires.digits) (omega arith) (not-false _ c.if-not-f.false) in
     let good = ap (λ n. edgeFits n (graph_of l.net).kind r.from r.to r.count r.start) l.invariant.1 ∙ sym c.edge_fits.ensures ∙ c.if-not-edge_fits.false in
-    let here = left net₀.edges l.e (2 + net₀.nodes) (drop l.at t) l.net c.loop-e-test.true l.invariant.3 in (
+    let here = left net₀.edges l.e l.line (drop l.at t) l.net c.loop-e-test.true l.invariant.3 in (
       omega arith,
       l.invariant.1,
       l.invariant.2,
-      sym (edge-good t l.at (net₀.edges - (l.e + 1)) l.e (2 + net₀.nodes) l.net _ line _ _ _ _ s.from_value.0 s.from_value.1 s.from_value.2 s.start_value good)
+      sym (edge-good t l.at (net₀.edges - (l.e + 1)) l.e l.line l.net _ line _ _ _ _ s.from_value.0 s.from_value.1 s.from_value.2 s.start_value good)
           ∙ here,
+      omega arith,
     )
 
 pub returns-clause-goes : goal.returns-clause-goes
@@ -67,6 +68,5 @@ unfolding edgesFrom
 returns-clause-goes c =
     let l = c.loop-e in
     let net₀ = c.args.net0 in
-    let d : 2 + net₀.nodes + l.e ≡ 2 + l.net.nodes + l.net.edges = omega (arith, l.invariant.1, l.invariant.2) in
     let q : net₀.edges - l.e ≡ 0 = omega arith in
-    sym (rw (q, d) at l.invariant.3)
+    sym (rw q at l.invariant.3)

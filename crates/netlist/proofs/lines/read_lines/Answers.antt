@@ -1,5 +1,5 @@
 -- `netlist::lines::read_lines` meets its contract: each stage goes on where the one before it ended, or its fault stands.
-use Rattle.std.proofs.Common.{◌+◌, ◌∙◌}
+use Rattle.std.proofs.Common.{◌∙◌}
 use Rattle.netlist.proofs.Stages.{goes-done, ends-surplus}
 use Rattle.netlist.proofs.lines.read_lines.Goals as goal
 
@@ -14,4 +14,4 @@ returns-then-edges-text c =
     ∙ goes-done _ _ _ n.result.net c.in-Done-b.is n.ensures.goes
     ∙ goes-done _ _ _ r.net c.in-Done-c.is e.ensures.goes
     in
-    (edged ∙ ends-surplus _ r.at (2 + r.net.nodes + r.net.edges) r.net c.if-edges-text.true, c.with_head.ensures)
+    (edged ∙ ends-surplus _ r.at r.line r.net c.if-edges-text.true, c.with_head.ensures)

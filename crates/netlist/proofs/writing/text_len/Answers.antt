@@ -4,4 +4,4 @@ use Rattle.netlist.proofs.Written.{text-length}
 use Rattle.netlist.proofs.writing.text_len.Goals as goal
 
 pub returns : goal.returns
-returns c = let l = text-length c.args.net in (omega (arith, l), omega arith)
+returns c = omega (arith, text-length c.args.net)

@@ -10,18 +10,14 @@ use Rattle.netlist.proofs.writing.write.Goals as goal
 pub returns-in_default : goal.returns-in_default
 returns-in_default c = writes-stop c.args.net _ _ _ c.verdict-a.ensures c.in_default.is
 
--- A record that was checked has its head in its ranges.
-pub text_len-n-requires : goal.text_len-n-requires
-text_len-n-requires c = reads-rows (typed-record c.well_formed.0) _ c.in-Done.is c.verdict-a.ensures
-
 pub returns-then-out-n : goal.returns-then-out-n
-returns-then-out-n c = writes_short c.args.net c.args.out.now _ _ c.verdict-a.ensures c.in-Done.is (omega (arith, c.text_len-n.ensures.0))
+returns-then-out-n c = writes_short c.args.net c.args.out.now _ _ c.verdict-a.ensures c.in-Done.is (omega (arith, c.text_len-n.ensures))
 
 pub returns : goal.returns
 returns c =
     let a = c.args in
     let h = reads-rows (typed-record c.well_formed.0) _ c.in-Done.is c.verdict-a.ensures in
-    let long = c.text_len-n.ensures.0 in
+    let long = c.text_len-n.ensures in
     let room : length (text_of a.net) ≤ length a.out.now = omega (arith, long) in
     let p = text-put a.net a.out.now _ _ c.put_text.ensures.out_after c.put_text.ensures.value h.0 h.1 room in
     writes-done a.net a.out.now _ _ c.verdict-a.ensures c.in-Done.is room _ long _ p.0

@@ -1,10 +1,10 @@
 -- `printing::retiming::put_lag_lines` meets its contract.
-use Rattle.std.proofs.Common.{◌≡◌, [], ◌∷◌, ◌++◌, ◌*◌, ◌≤◌, ap, ap₂, ◌∙◌, arith, rules, get_or}
+use Rattle.std.proofs.Common.{◌≡◌, [], ◌∷◌, ◌++◌, ◌+◌, length, ap, ap₂, ◌∙◌, arith, rules, get_or}
 use lib.IntN.{pos}
 use mir.Facts.{to_z-of_z}
 use Rattle.frame.specs.Frame.{bytes_of, line_of, placed}
 use Rattle.netlist.specs.Write.{joined}
-use Rattle.netlist.proofs.Written.{length-joined, put-more}
+use Rattle.netlist.proofs.Written.{joined-more, joined-part, put-more}
 use Rattle.printing.specs.Listed.{twos, lagLine}
 use Rattle.printing.proofs.Lines.{small-fits, lag-length}
 use Rattle.printing.proofs.retiming.put_lag_lines.Goals as goal
@@ -13,17 +13,24 @@ pub loop-v-init : goal.loop-v-init
 unfolding joined
 loop-v-init c = search rules
 
+-- There is room for the line.
+pub overflow_add-at : goal.overflow_add-at
+overflow_add-at c =
+    let f = lagLine c.args.lags.now in
+    let v = c.loop-v.v in
+    omega (arith, joined-part f c.args.nodes v (omega arith), joined-more f v, lag-length c.args.lags.now v, c.well_formed)
+
 pub loop-v-preserved : goal.loop-v-preserved
 loop-v-preserved c =
     let here = c.loop-v in
     let a = c.args in
     let same = to_z-of_z (small-fits (get_or a.lags.now here.v (pos 0)) (c.requires.by_index here.v c.loop-v-test.true)) in (
       omega arith,
-      omega arith,
+      omega (arith, joined-more (lagLine a.lags.now) here.v, lag-length a.lags.now here.v),
       c.put_line.ensures
           ∙ ap (placed _ _) (ap line_of (c.lag_bytes-b.ensures ∙ ap (λ w. (4 ∷ []) ++ bytes_of 2 here.v ++ bytes_of 2 w) (c.lag_word.ensures ∙ ap twos same)))
           ∙ ap₂ (λ l at. placed l at (lagLine a.lags.now here.v)) here.invariant.2 here.invariant.1
-          ∙ put-more (lagLine a.lags.now) 11 (lag-length a.lags.now) a.out.now a.at0 here.v (omega arith),
+          ∙ put-more (lagLine a.lags.now) a.out.now a.at0 here.v (omega (arith, joined-part (lagLine a.lags.now) a.nodes here.v (omega arith))),
     )
 
 pub returns-clause-value : goal.returns-clause-value
@@ -31,4 +38,4 @@ returns-clause-value c =
     let here = c.loop-v in
     let a = c.args in
     let e : here.v ≡ a.nodes = omega arith in
-    omega (arith, length-joined (lagLine a.lags.now) 11 (lag-length a.lags.now) a.nodes, here.invariant.1)
+    here.invariant.1 ∙ ap (λ n. a.at0 + length (joined (lagLine a.lags.now) n)) e

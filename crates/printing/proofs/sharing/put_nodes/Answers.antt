@@ -1,9 +1,9 @@
 -- `printing::sharing::put_nodes` meets its contract.
-use Rattle.std.proofs.Common.{rules, ap, ap₂, ◌∙◌, arith, ◌≡◌, ◌+◌, ◌*◌}
+use Rattle.std.proofs.Common.{rules, ap, ap₂, sym, ◌∙◌, arith, ◌≡◌, ◌+◌, ◌*◌}
 use Rattle.std.proofs.lemmas.List.Edits.{sets}
 use Rattle.frame.specs.Frame.{line_of, placed}
 use Rattle.netlist.specs.Write.{joined}
-use Rattle.netlist.proofs.Written.{put-more}
+use Rattle.netlist.proofs.Written.{length-joined, put-more}
 use Rattle.printing.specs.Shared.{railLine}
 use Rattle.printing.proofs.Shared.{rail-length}
 use Rattle.printing.proofs.sharing.put_nodes.Goals as goal
@@ -15,11 +15,14 @@ loop-v-init c = search rules
 pub loop-v-preserved : goal.loop-v-preserved
 loop-v-preserved c =
     let here = c.loop-v in
-    let a = c.args in (
+    let a = c.args in
+    let f = railLine a.table.now in
+    let long = length-joined f 15 (rail-length a.table.now) in (
       omega arith,
       c.put_line.ensures
           ∙ ap₂ (λ l bytes. placed l (11 + 15 * here.v) (line_of bytes)) here.invariant.1 c.rail_bytes-b.ensures
-          ∙ put-more (railLine a.table.now) 15 (rail-length a.table.now) a.out.now 11 here.v (omega arith),
+          ∙ ap (λ k. placed (sets a.out.now 11 (joined f here.v)) (11 + k) (f here.v)) (sym (long here.v))
+          ∙ put-more f a.out.now 11 here.v (omega (arith, long (here.v + 1))),
     )
 
 pub returns : goal.returns
