@@ -13,13 +13,15 @@ use native.Mathlib.Decide.{ℕ_discrete, dec_lt}
 use mathlib.Core.Path.{◌≡◌, sym, subst, ap, ◌∙◌}
 use mathlib.Core.Bool.{Bool, true}
 use mathlib.Core.Logic.{◌⊎◌, inl, inr}
-use mathlib.Core.List.{List}
+use mathlib.Core.List.{List, []}
 use borrow.Author.Tests.{lt-ltb, le-ltb}
 use lib.ListN.{length}
 use Rattle.theory.specs.Lag.{up}
+use Rattle.theory.specs.Gate.{gate}
 use Rattle.theory.specs.Move.{sum}
 use Rattle.theory.proofs.numbers.Whole.{no-down}
 use Rattle.theory.proofs.numbers.Sums.{sum-within, sum_more, sum-grows}
+use Rattle.theory.proofs.moves.Best.{best-none}
 use Rattle.theory.proofs.retimer.Levels.{lag-chosen}
 use Rattle.graph.specs.Columns.{at}
 use Rattle.graph.specs.inner.Sort.{ByNode, Ordered}
@@ -220,13 +222,11 @@ module _ {net : Netlist} {lab counts base : List ℕ} {k : ℕ} (ch : Choosing n
   stands s = rw ch.chosen s
 
   pub chooses : {cells rows : ℕ} {kind first operand due begin : List ℕ} → Standing net (lagsOf lab) k cells rows kind first operand due begin
-      → (found : Bool) (c : ℕ) → Solves k (program_of kind first operand) due (at begin rows) found c → Chooses net (lagsOf lab) found c
+      → (found : Bool) (c : ℕ) → Solves k (program_of kind first operand) due (at begin rows) [] found c → Chooses net (lagsOf lab) found c
   chooses s = solved net m.sound (lagsOf lab) m.labelled.legal size s
 
   -- No lag is positive then, so no old value is to be carried.
   pub chosen_none : k ≡ 0 → Chooses net (lagsOf lab) true 0
-  chosen_none z = record {
-    small = rw (sym size ∙ z) (omega arith);
-    carried = λ e s t he hs p. absurd (let y : ⊥ = omega (arith, size, lag-chosen (graph_of net) (regs_of net).count (lagsOf lab) m.labelled.legal m.sure.fed (at net.from e) (from-node net lab m.labelled e he)) in y);
-    first = λ d h. absurd (let y : ⊥ = omega arith in y);
-  }
+  chosen_none z =
+      best-none gate (graph_of net) (regs_of net) (lagsOf lab) (sym size ∙ z)
+      (λ c e s t he hs p. absurd (let y : ⊥ = omega (arith, size, lag-chosen (graph_of net) (regs_of net).count (lagsOf lab) m.labelled.legal m.sure.fed (at net.from e) (from-node net lab m.labelled e he)) in y))

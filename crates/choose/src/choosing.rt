@@ -76,7 +76,7 @@ fn compile(
     Compiled { cells, rows }
 }
 
-// The smallest choice that carries the start, or that none does. No lag is above `clocks`.
+// The best choice that carries the start, or that none does. No lag is above `clocks`.
 fn searched(
     net: Netlist,
     lab: &[u32],
@@ -107,7 +107,11 @@ fn searched(
     );
     let cells = made.cells;
     let rows = made.rows;
-    solve(&kind, &first, &operand, cells, k, &mut due, &begin, rows)
+    // Nothing is filled: a list is a choice.
+    let mut fill = [0u16; 0];
+    solve(
+        &kind, &first, &operand, cells, k, &mut due, &begin, rows, &mut fill,
+    )
 }
 
 // Whether no lag is above 1: then a cell of the search is a node.
@@ -125,7 +129,7 @@ fn below_two(lab: &[u32], nodes: usize) -> bool
     true
 }
 
-// The smallest choice that carries the start, or that none does.
+// The best choice that carries the start, or that none does.
 // Where nothing is chosen no lag is positive, so nothing is to be carried, and the empty choice is the only one.
 // The search is called at two places, so that its columns stand in a frame of their own: a frame is touched page by page when its function is entered.
 fn best(net: Netlist, lab: &[u32], counts: &[u32], base: &[u32], k: u32) -> search::Choice
@@ -144,7 +148,7 @@ fn best(net: Netlist, lab: &[u32], counts: &[u32], base: &[u32], k: u32) -> sear
     searched(net, lab, counts, base, k, LAGS)
 }
 
-// The chosen start values: those of the smallest choice that carries the start.
+// The chosen start values: those of the best choice that carries the start.
 pub fn choose(net: Netlist, lab: &[u32], counts: &[u32], base: &[u32], k: u32) -> Choice
     requires { Choosing net lab.now counts.now base.now k }
     ensures { Chosen net (lagsOf lab.now) result.found result.words }

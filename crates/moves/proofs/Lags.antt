@@ -18,7 +18,7 @@ use Rattle.theory.specs.Lag.{up, down, newCount, Legal, Least}
 use Rattle.theory.specs.Move.{moveIf, move, quiet, chosenIn, digit, choice_of, Best}
 use Rattle.theory.specs.Retimer.{Sound, NoStart, retimed}
 use Rattle.theory.proofs.moves.Choose.{choice-number}
-use Rattle.theory.proofs.moves.Best.{choice-bit, lag-src, lag-dst, chosen-before, number-lags}
+use Rattle.theory.proofs.moves.Best.{choice-bit, lag-src, lag-dst, chosen-before, number-lags, best-lags}
 
 -- A walk's registers depend on its edges' counts.
 pub registers-alike : {G : Graph} {u v : ℕ} (count count' : ℕ → ℕ) → ((e : ℕ) → e < G.edges → count e ≡ count' e) → (p : Walk G u v)
@@ -76,11 +76,7 @@ module _ (gate : ℕ → List ℕ → ℕ) (G : Graph) (R : Regs) (ok : Sound ga
   legal' = legal-alike gate G ok.wired R r q same legal
 
   pub best-alike : (c : ℕ) → Best gate G R r c → Best gate G R q c
-  best-alike c b = record {
-    small = rw (← chosen-alike gate G ok.wired R r q same) b.small;
-    carried = number-lags gate G ok.wired R ok.no_loop r q legal legal' same c b.carried;
-    first = λ d h k. b.first d h (number-lags gate G ok.wired R ok.no_loop q r legal' legal (λ v l. sym (same v l)) d k);
-  }
+  best-alike = best-lags gate G ok.wired R ok.no_loop r q legal legal' same
 
   pub no-start-alike : NoStart gate G R r → NoStart gate G R q
   no-start-alike n choice bits carried =

@@ -1,5 +1,6 @@
 -- Choices as numbers, and the bits of the next one.
 --   same_above          choices that agree from place a up agree from every higher place up
+--   half                a place further up is half
 --   next-bounds         the next choice is larger, and at most 2 ^ k
 --   next-odd            where bit b is 1, a place further gives the same next choice
 --   next-half, next-top, next_low   where bit b is 0: the bits above it stay, it turns to 1, those below it are 0
@@ -38,7 +39,7 @@ next-bounds c k b h l =
     let m : suc (c / 2 ^ b) * 2 ^ b ≤ 2 ^ j * 2 ^ b = mul-le-mul_right (2 ^ b) w in
     (omega (arith, suc-mul (c / 2 ^ b) (2 ^ b), lt-div-mul-add {a = c} (pow_pos b)), omega (arith, pow-add 2 j b, ap (λ n. 2 ^ n) z))
 
-half : (c b : ℕ) → c / 2 ^ suc b ≡ c / 2 ^ b / 2
+pub half : (c b : ℕ) → c / 2 ^ suc b ≡ c / 2 ^ b / 2
 half c b = ap (λ n. c / 2 ^ n) (sym (add-one b)) ∙ sym (shr-shr c b 1)
 
 next-odd : (c b : ℕ) → c / 2 ^ b % 2 ≡ 1 → nextAfter c (suc b) ≡ nextAfter c b

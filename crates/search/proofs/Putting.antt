@@ -209,6 +209,9 @@ module _ {level due : List ℕ} {total many : ℕ} {old row : List ℕ} {size : 
           let g : d < n = omega (arith, s.next, ranked-grows level due total fits j m (omega arith)) in
           subst (λ y. at level (y / 2) < j) (sym (row_at d g ∙ f)) (ranked-place level due total fits j d w).low;
       ends = subst (RowsEnd left 0) (sym last) s.ends;
+      most = λ j h.
+          let b : at (set rows many n) j ≡ length (ranked level due total j) = subst (λ x. at (set rows x n) j ≡ length (ranked level due total j)) e (begins-more j (omega arith)) in
+          omega (arith, b, last, s.next, ranked-grows level due total fits j m (omega arith));
     }
 
     pub ranking-same : ((x : ℕ) → x < total → at level (at due x / 2) < many) → SameDues due total row (at (set rows many n) many)

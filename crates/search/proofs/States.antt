@@ -3,19 +3,19 @@
 --   valued-seen         the next cell can be evaluated
 --   valued-value        what its gate gives is its value
 --   valued-more         with that the cells are evaluated one further
---   Tried c             no choice below c will do
---   Searching c p sig d     the search's state: none below c will do, the cells below p are evaluated under c, the first d dues agree with c
---   searching-start     the choice 0, no cell and no due yet
+--   Searching best c p sig d     the search's state: the lists of the choices below c are tried, the cells below p are evaluated under c, the first d dues agree with c
 --   searching-on        more cells are evaluated
 --   searching-turn      one due further, where it agrees
---   searching-jump, jump-up     a later choice, where it does not
---   searching-end, searching-none   when all dues agree the choice is the smallest; when all choices are tried there is none
+--   searching-jump      a later choice
+--   searching-drop      the next choice that is not dropped with this one, where a due does not agree
+--   searching-next      the next choice, where all agree
+--   searching-found, searching-none   the best list is found: one whose fillings are all 0, or all choices are tried
 -- Why a jump is right: it skips choices that agree with the dropped one on all bits on which the wrong cell depends, so they give it the same wrong
--- value (`jump-tried`). The new choice agrees with the dropped one on the bits on which the cells below the first changed level depend: these keep their
+-- value (`dead`). The new choice agrees with the dropped one on the bits on which the cells below the first changed level depend: these keep their
 -- values (`jump-keeps`), and what was due of them agrees still. They and their dues were all looked at before the wrong one, whose level is no lower.
 use Prim.Native.Nat.{ℕ, suc, ◌+◌, ◌-◌, ◌^◌, ◌/◌, ◌%◌, ◌<◌, ◌≤◌}
 use native.Mathlib.Omega.{arith}
-use native.Mathlib.Nat.{zero-div, div-eq_of_lt-le, div-mul-le_self}
+use native.Mathlib.Nat.{div-eq_of_lt-le, div-mul-le_self, mod-eq_of_lt, mod-le}
 use native.Mathlib.Decide.{ℕ_discrete, dec_lt}
 use native.Mathlib.Numerals.{add-one}
 use mathlib.Core.Path.{◌≡◌, sym, subst, ap, ◌∙◌}
@@ -23,17 +23,20 @@ use mathlib.Core.Logic.{⊎_elim, ◌⊎◌, inl, inr}
 use mathlib.Core.List.{List, map}
 use lib.ListN.{length, set, length-set}
 use lib.Seq.{get_or-set_same, get_or-set_other}
+use lib.Pow.{pow_pos}
 use Rattle.theory.specs.Gate.{gate}
 use Rattle.graph.specs.Columns.{at}
 use Rattle.gates.specs.inner.Gates.{part, Reckons, InputRows}
+use Rattle.search.specs.declared.Choice.{Choice}
 use Rattle.search.specs.declared.choices.Extent.{Extent}
 use Rattle.search.specs.declared.choices.Turn.{Turn}
-use Rattle.search.specs.inner.Program.{Program, look, valuesTo, value_at, GivesDues, Smallest}
+use Rattle.search.specs.inner.Program.{Program, look, valuesTo, value_at, GivesDues, Fillable, Solves}
 use Rattle.search.specs.inner.Rows.{Level}
-use Rattle.search.specs.inner.States.{Evaluator, programIn, Executable, Valued, nextAfter, Jumped, Plan}
+use Rattle.search.specs.inner.States.{Evaluator, programIn, Executable, Valued, nextAfter, Jumped, ListOf, Better, Plan}
 use Rattle.search.proofs.Putting.{climb}
 use Rattle.search.proofs.Next.{next-bounds}
 use Rattle.search.proofs.Values.{part_same, look-bit, look-cell, values-at, value-gate, operand-bit, agree}
+use Rattle.search.proofs.Lists.{prefers-low, prefers-through, list-fulfils, list-least, Tried, tried-on, tried-more, tried-end}
 
 -- ── Cells ───────────────────────────────────────────────────────────────────────────────────
 
@@ -91,44 +94,63 @@ module _ {cells k : ℕ} {kind : List ℕ} {E : Evaluator} {c p : ℕ} {sig : Li
 
 -- ── Choices ─────────────────────────────────────────────────────────────────────────────────
 
-abbrev Tried : Extent → Program → List ℕ → ℕ → Type 0
-Tried e P row c = (d : ℕ) → d < c → ¬ GivesDues e.bits P row e.dues d
-
-pub record Searching (e : Extent) (P : Program) (row : List ℕ) (c p : ℕ) (sig : List ℕ) (d : ℕ) : Type 0 where
+pub record Searching (e : Extent) (P : Program) (row fill : List ℕ) (best : Choice) (c p : ℕ) (sig : List ℕ) (d : ℕ) : Type 0 where
   pub limit : c ≤ 2 ^ e.bits
-  pub tried : Tried e P row c
+  pub tried : Tried e.bits P row e.dues fill c best
   pub valued : Valued e.cells e.bits P c p sig
   pub few : d ≤ e.dues
   pub agreed : GivesDues e.bits P row d c
 
-module _ {e : Extent} {P : Program} {level row left : List ℕ} (g : Plan e P level row left) where
-  pub searching-start : (sig : List ℕ) → 32 + e.cells ≤ length sig → ((x : ℕ) → x < 32 → at sig x ≡ 0) → Searching e P row 0 0 sig 0
-  searching-start sig n z = record {
-    limit = omega arith;
-    tried = λ d h. absurd (let y : ⊥ = omega arith in y);
-    valued = record {
-      size = n;
-      few = omega arith;
-      bits = λ x h. z x (omega (arith, g.program.few_bits)) ∙ sym (ap (λ v. v % 2) (zero-div (2 ^ (e.bits - suc x))));
-      values = λ i h. absurd (let y : ⊥ = omega arith in y);
-    };
-    few = omega arith;
-    agreed = λ x h. absurd (let y : ⊥ = omega arith in y);
-  }
+climbs : {e : Extent} {P : Program} {level row left : List ℕ} → Plan e P level row left → (a b : ℕ) → a ≤ b → b ≤ suc e.bits → at e.levels a ≤ at e.levels b
+climbs {e} g = climb e.levels (suc e.bits) (λ n h. g.levelled.climbs n (omega arith))
 
-  module _ {c p : ℕ} {sig : List ℕ} {d : ℕ} (s : Searching e P row c p sig d) where
-    pub searching-on : {q : ℕ} {after : List ℕ} → Valued e.cells e.bits P c q after → Searching e P row c q after d
+module _ {e : Extent} {P : Program} {level row left fill : List ℕ} (g : Plan e P level row left) where
+  module _ {best : Choice} {c p : ℕ} {sig : List ℕ} {d : ℕ} (s : Searching e P row fill best c p sig d) where
+    pub searching-on : {q : ℕ} {after : List ℕ} → Valued e.cells e.bits P c q after → Searching e P row fill best c q after d
     searching-on v = record { limit = s.limit; tried = s.tried; valued = v; few = s.few; agreed = s.agreed }
 
-    pub searching-end : e.dues ≤ d → Smallest e.bits P row e.dues c
-    searching-end h = record { none_before = s.tried; gives = λ l x a. s.agreed x (omega arith); limit = s.limit }
+    pub searching-none : 2 ^ e.bits ≤ c → Solves e.bits P row e.dues fill best.found best.choice
+    searching-none h = tried-end s.tried (λ d l. absurd (let y : ⊥ = omega (arith, pow_pos e.bits) in y))
 
-    pub searching-none : 2 ^ e.bits ≤ c → Smallest e.bits P row e.dues c
-    searching-none h = record { none_before = s.tried; gives = λ l. absurd (let y : ⊥ = omega arith in y); limit = s.limit }
+    -- A later choice: a jump from level m, where the cells and the dues below the first changed level were looked at.
+    module _ {m : ℕ} (low : m ≤ e.bits) (small : c < 2 ^ e.bits) {after : List ℕ} {t : Turn} (j : Jumped c e.bits m e.levels e.rows sig after t) where
+      module _ (early : at e.levels j.level ≤ p) (before : at e.rows j.level ≤ d) where
+        -- Cells that depend on unchanged bits alone.
+        jump-keeps : (n : ℕ) → n < at e.levels j.level → value_at P e.bits c n ≡ value_at P e.bits t.choice n
+        jump-keeps n h = go (ℕ_discrete j.level 0)
+          where
+            go : Dec (j.level ≡ 0) → value_at P e.bits c n ≡ value_at P e.bits t.choice n
+            go (yes z) = absurd (let y : ⊥ = omega (arith, ap (at e.levels) z, g.levelled.none) in y)
+            go (no z) =
+                let y = j.level - 1 in
+                let q : suc y ≡ j.level = omega arith in
+                let f : suc e.bits - j.level ≡ e.bits - y = omega (arith, j.most) in
+                agree g.program g.levelled c t.choice y (omega (arith, j.most)) (rw f at j.agree) n (rw q h)
+
+        due-low : (x : ℕ) → x < at e.rows j.level → at row x / 2 < at e.levels j.level
+        due-low x h =
+            let i = at row x / 2 in
+            let w = g.in_rows.low j.level x (omega (arith, j.most)) h in
+            omega (arith, (g.level-of i (g.cell x (omega (arith, before, s.few)))).below, climbs g (suc (at level i)) j.level w (omega (arith, j.most)))
+
+        pub searching-jump : {next : Choice} → length after ≡ length sig → Tried e.bits P row e.dues fill (nextAfter c (e.bits - m)) next
+            → Searching e P row fill next t.choice t.cell after t.due
+        searching-jump {next} n tried = rw (j.cell_at, j.due-at) (record {
+          limit = omega (arith, j.next, (next-bounds c e.bits (e.bits - m) small (omega arith)).1);
+          tried = subst (λ b. Tried e.bits P row e.dues fill b next) (sym j.next) tried;
+          valued = record {
+            size = omega (arith, n, s.valued.size);
+            few = omega (arith, climbs g j.level (suc e.bits) (omega (arith, j.most)) (omega arith), g.levelled.whole);
+            bits = j.bits;
+            values = λ i h. j.cells (32 + i) (omega (arith, g.program.few_bits)) ∙ s.valued.values i (omega (arith, early)) ∙ jump-keeps i h;
+          };
+          few = omega (arith, before, s.few);
+          agreed = λ x h. s.agreed x (omega (arith, before)) ∙ jump-keeps (at row x / 2) (due-low x h);
+        })
 
     -- The due whose turn it is asks a cell that is evaluated.
     module _ (l : d < e.dues) (u : at row d / 2 < p) where
-      pub searching-turn : at sig (32 + at row d / 2) ≡ at row d % 2 → Searching e P row c p sig (d + 1)
+      pub searching-turn : at sig (32 + at row d / 2) ≡ at row d % 2 → Searching e P row fill best c p sig (d + 1)
       searching-turn q = record {
         limit = s.limit;
         tried = s.tried;
@@ -141,66 +163,47 @@ module _ {e : Extent} {P : Program} {level row left : List ℕ} (g : Plan e P le
           go x h (yes z) = rw z (sym q ∙ s.valued.values (at row d / 2) u)
           go x h (no z) = s.agreed x (omega arith)
 
-      module _ (wrong : ¬ (at sig (32 + at row d / 2) ≡ at row d % 2)) (small : c < 2 ^ e.bits) where
+      module _ (wrong : ¬ (at sig (32 + at row d / 2) ≡ at row d % 2)) where
         own : Level e.levels (suc e.bits) (at row d / 2) (at level (at row d / 2))
         own = g.level-of (at row d / 2) (g.cell d l)
 
-        jump-tried : Tried e P row (nextAfter c (e.bits - at level (at row d / 2)))
-        jump-tried n h holds = go (dec_lt n c)
+        dead : (n : ℕ) → c ≤ n → n < nextAfter c (e.bits - at level (at row d / 2)) → ¬ GivesDues e.bits P row e.dues n
+        dead n h k holds =
+            let i = at row d / 2 in
+            let b = e.bits - at level i in
+            let z : n / 2 ^ b ≡ c / 2 ^ b = div-eq_of_lt-le (2 ^ b) (omega (arith, div-mul-le_self c (2 ^ b))) (rw add-one k) in
+            wrong (s.valued.values i u ∙ sym (holds d l ∙ agree g.program g.levelled n c (at level i) (omega (arith, own.few)) z i own.below))
+
+        pub searching-drop : c < 2 ^ e.bits → {after : List ℕ} {t : Turn} → Jumped c e.bits (at level (at row d / 2)) e.levels e.rows sig after t
+            → length after ≡ length sig → Searching e P row fill best t.choice t.cell after t.due
+        searching-drop small {after} {t} j n =
+            searching-jump (omega (arith, own.few)) small j
+            (omega (arith, climbs g j.level (at level (at row d / 2)) j.most (omega (arith, own.few)), own.from))
+            (before (dec_lt d (at e.rows j.level))) n (tried-on s.tried _ dead)
           where
-            go : Dec (n < c) → ⊥
-            go (yes q) = s.tried n q holds
-            go (no q) =
-                let i = at row d / 2 in
-                let b = e.bits - at level i in
-                let z : n / 2 ^ b ≡ c / 2 ^ b = div-eq_of_lt-le (2 ^ b) (omega (arith, div-mul-le_self c (2 ^ b))) (rw add-one h) in
-                wrong (s.valued.values i u ∙ sym (holds d l ∙ agree g.program g.levelled n c (at level i) (omega (arith, own.few)) z i own.below))
+            before : Dec (d < at e.rows j.level) → at e.rows j.level ≤ d
+            before (yes q) = absurd (let y : ⊥ = omega (arith, g.in_rows.low j.level d (omega (arith, j.most, own.few)) q, j.most) in y)
+            before (no q) = omega arith
 
-        module _ {after : List ℕ} {t : Turn} (j : Jumped c e.bits (at level (at row d / 2)) e.levels e.rows sig after t) where
-          climbs : (a b : ℕ) → a ≤ b → b ≤ suc e.bits → at e.levels a ≤ at e.levels b
-          climbs = climb e.levels (suc e.bits) (λ n h. g.levelled.climbs n (omega arith))
+    -- All dues agree, and all cells are evaluated.
+    module _ (a : Fillable e.cells e.bits fill) (all : e.dues ≤ d) (whole : e.cells ≤ p) {list : ℕ} (o : ListOf e.bits fill sig c list)
+        {after : Choice} (b : Better best list after) where
+      tried-own : Tried e.bits P row e.dues fill (suc c) after
+      tried-own = tried-more s.tried b o.few (list-fulfils a s.valued whole o row e.dues (λ x h. s.agreed x (omega arith))) (list-least a s.valued whole o)
 
-          early : at e.levels j.level ≤ at row d / 2
-          early = omega (arith, climbs j.level (at level (at row d / 2)) j.most (omega (arith, own.few)), own.from)
+      pub searching-next : c < 2 ^ e.bits → {new : List ℕ} {t : Turn} → Jumped c e.bits e.bits e.levels e.rows sig new t → length new ≡ length sig
+          → Searching e P row fill after t.choice t.cell new t.due
+      searching-next small j n =
+          searching-jump (omega arith) small j
+          (omega (arith, climbs g j.level (suc e.bits) (omega (arith, j.most)) (omega arith), g.levelled.whole))
+          (omega (arith, g.in_rows.most j.level (omega (arith, j.most)), g.whole)) n
+          (subst (λ x. Tried e.bits P row e.dues fill x after) next tried-own)
+        where
+          next : suc c ≡ nextAfter c (e.bits - e.bits)
+          next = let z : e.bits - e.bits ≡ 0 = omega arith in rw z (omega arith)
 
-          -- Cells that depend on unchanged bits alone.
-          jump-keeps : (n : ℕ) → n < at e.levels j.level → value_at P e.bits c n ≡ value_at P e.bits t.choice n
-          jump-keeps n h = go (ℕ_discrete j.level 0)
-            where
-              go : Dec (j.level ≡ 0) → value_at P e.bits c n ≡ value_at P e.bits t.choice n
-              go (yes z) = absurd (let y : ⊥ = omega (arith, ap (at e.levels) z, g.levelled.none) in y)
-              go (no z) =
-                  let y = j.level - 1 in
-                  let q : suc y ≡ j.level = omega arith in
-                  let f : suc e.bits - j.level ≡ e.bits - y = omega (arith, j.most, own.few) in
-                  agree g.program g.levelled c t.choice y (omega (arith, j.most, own.few)) (rw f at j.agree) n (rw q h)
-
-          before : at e.rows j.level ≤ d
-          before = go (dec_lt d (at e.rows j.level))
-            where
-              go : Dec (d < at e.rows j.level) → at e.rows j.level ≤ d
-              go (yes q) = absurd (let y : ⊥ = omega (arith, g.in_rows.low j.level d (omega (arith, j.most, own.few)) q, j.most) in y)
-              go (no q) = omega arith
-
-          low : (x : ℕ) → x < at e.rows j.level → at row x / 2 < at e.levels j.level
-          low x h =
-              let i = at row x / 2 in
-              let w = g.in_rows.low j.level x (omega (arith, j.most, own.few)) h in
-              omega (arith, (g.level-of i (g.cell x (omega (arith, before)))).below, climbs (suc (at level i)) j.level w (omega (arith, j.most, own.few)))
-
-          pub searching-jump : length after ≡ length sig → Searching e P row t.choice t.cell after t.due
-          searching-jump n = rw (j.cell_at, j.due-at) (record {
-            limit = omega (arith, j.next, (next-bounds c e.bits (e.bits - at level (at row d / 2)) small (omega arith)).1);
-            tried = subst (Tried e P row) (sym j.next) jump-tried;
-            valued = record {
-              size = omega (arith, n, s.valued.size);
-              few = omega (arith, climbs j.level (suc e.bits) (omega (arith, j.most, own.few)) (omega arith), g.levelled.whole);
-              bits = j.bits;
-              values = λ i h. j.cells (32 + i) (omega (arith, g.program.few_bits)) ∙ s.valued.values i (omega (arith, early)) ∙ jump-keeps i h;
-            };
-            few = omega (arith, before);
-            agreed = λ x h. s.agreed x (omega (arith, before)) ∙ jump-keeps (at row x / 2) (low x h);
-          })
-
-          pub jump-up : c < t.choice
-          jump-up = omega (arith, j.next, (next-bounds c e.bits (e.bits - at level (at row d / 2)) small (omega arith)).0)
+      -- No later list is preferred to one whose fillings are all 0.
+      pub searching-found : list < 2 ^ e.bits → Solves e.bits P row e.dues fill after.found after.choice
+      searching-found h =
+          tried-end tried-own
+          (λ d l. (b.found, prefers-through d list after.choice (prefers-low list d (omega (arith, o.choice, mod-eq_of_lt h, mod-le d (2 ^ e.bits)))) b.over_list))

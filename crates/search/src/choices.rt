@@ -2,10 +2,13 @@
 // Private to the crate: `search` hands on the plan that it asks for.
 //
 // Signals: what each operand shows, the chosen bit x at x and the value of cell i at 32 + i.
-ghost use Rattle.std.specs.Prelude.{◌≡◌, ◌+◌, ◌-◌, ◌^◌, ◌≤◌, ◌<◌, length};
-ghost use Rattle.search.specs.inner.Program.{program_of, Smallest};
-ghost use Rattle.search.specs.inner.States.{nextAfter, ChoiceShown, evaluatorOf, CanEvaluate, EvaluatedTo, Advanced, Jumped, Plan, Fresh};
+ghost use Rattle.std.specs.Prelude.{◌≡◌, ℕ, ◌↔◌, ◌+◌, ◌-◌, ◌^◌, ◌≤◌, ◌<◌, true, length};
+ghost use Rattle.theory.specs.Move.{Prefers};
+ghost use Rattle.graph.specs.Columns.{at};
+ghost use Rattle.search.specs.inner.Program.{program_of, Fillable, Solves};
+ghost use Rattle.search.specs.inner.States.{nextAfter, ChoiceShown, evaluatorOf, CanEvaluate, EvaluatedTo, Advanced, Jumped, ListOf, Better, Plan, Fresh};
 
+use crate::Choice;
 use gates::{index_table, put_truths, value};
 
 // How far the search goes: the bits of a choice, the limit of choices, how many cells and dues there are, and where those of each level begin.
@@ -26,6 +29,12 @@ struct Turn {
     cell: usize,
     due: usize,
 }
+
+// No list yet.
+const NONE: Choice = Choice {
+    found: false,
+    choice: 0,
+};
 
 // 2 ^ k.
 pub fn two_to(k: u32) -> u32
@@ -98,24 +107,73 @@ fn jump<'a>(choice: u32, k: u32, m: u8, levels: &'a [u16], rows: &'a [u16], sig:
     }
 }
 
+// A filling by its place in the column: 0 where nothing asks for it, else the value of the cell that does.
+fn filling(place: u16, sig: &[u8]) -> u32
+    requires { 31 + place < length sig.now }
+    ensures { (place ≡ 0 → result ≡ 0) × (0 < place → result ≡ at sig.now (31 + place)) }
+{
+    if place == 0 {
+        0
+    } else {
+        sig[31 + place as usize] as u32
+    }
+}
+
+// The list of a choice under which all cells are evaluated: the fillings, then the choice itself.
+fn list_of(choice: u32, k: u32, fill: &[u16], sig: &[u8]) -> u32
+    requires choice_bound { (choice < 2 ^ k) × (length fill.now + k ≤ 24) }
+    requires by_index { (x : ℕ) → x < length fill.now → (31 + at fill.now x < length sig.now) × (0 < at fill.now x → at sig.now (31 + at fill.now x) ≤ 1) }
+    ensures { ListOf k fill.now sig.now choice result }
+{
+    let mut fillings = 0;
+    for place in fill {
+        fillings = 2 * fillings + filling(*place, sig);
+    }
+    (fillings << k) + choice
+}
+
+// Whether the list a is taken before the list b.
+fn prefers(a: u32, b: u32) -> bool
+    ensures { result ≡ true ↔ Prefers a b }
+{
+    a < b
+}
+
+// The better of the best list so far and another.
+fn better(kept: Choice, list: u32) -> Choice
+    ensures { Better kept list result }
+{
+    if kept.found && !prefers(list, kept.choice) {
+        return kept;
+    }
+    Choice {
+        found: true,
+        choice: list,
+    }
+}
+
 // "A choice is dropped at its first register value that disagrees": then the search goes on with the next choice that differs in a bit on which
-// that value depends. The choice found; the limit where there is none.
-pub fn first_choice<'a>(
+// that value depends. Where all agree, the choice's list is compared with the best so far; one whose fillings are all 0 ends the search, as no later one is preferred.
+pub fn best_list<'a>(
     kind: &'a [u8],
     first: &'a [u16],
     operand: &'a [u16],
     level: &[u8],
     row: &[u16],
     left: &[u8],
+    fill: &[u16],
     e: Extent,
     truth: &mut [u16],
     sig: &mut [u8],
-) -> u32
-    requires { Plan e (program_of kind.now first.now operand.now) level.now row.now left.now × Fresh e.cells truth.old sig.old }
-    ensures { Smallest e.bits (program_of kind.now first.now operand.now) row.now e.dues result }
+) -> Choice
+    requires planned { Plan e (program_of kind.now first.now operand.now) level.now row.now left.now × Fresh e.cells truth.old sig.old }
+    requires fillable { Fillable e.cells e.bits fill.now }
+    ensures { Solves e.bits (program_of kind.now first.now operand.now)
+        row.now e.dues fill.now result.found result.choice }
 {
     let index = index_table();
     put_truths(kind, first, e.cells, truth);
+    let mut best = NONE;
     let mut choice = 0;
     let mut p = 0;
     let mut d = 0;
@@ -136,7 +194,16 @@ pub fn first_choice<'a>(
                 d += 1;
             }
         }
-        return choice;
+        evaluate(truth, &index, first, operand, p, e.cells, sig);
+        let list = list_of(choice, e.bits, fill, sig);
+        best = better(best, list);
+        if list < e.limit {
+            return best;
+        }
+        let next = jump(choice, e.bits, e.bits as u8, &e.levels, &e.rows, sig);
+        choice = next.choice;
+        p = next.cell;
+        d = next.due;
     }
-    choice
+    best
 }

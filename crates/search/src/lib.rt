@@ -1,4 +1,4 @@
-// The search for start values: the smallest choice of bits under which a row of gates gives what is due.
+// The search for start values: the best list of bits, fillings and a choice, under which a row of gates gives what is due.
 // Internal: asks of the caller a right program whose cells are ordered by level (`solve` orders them).
 #![tactic(auto)]
 
@@ -7,10 +7,10 @@ mod rows;
 
 ghost use Rattle.std.specs.Prelude.{◌≡◌, ℕ, suc, ◌≤◌, ◌<◌, length};
 ghost use Rattle.graph.specs.Columns.{at};
-ghost use Rattle.search.specs.inner.Program.{program_of, RightProgram, Owes, Levelled, Solves};
+ghost use Rattle.search.specs.inner.Program.{program_of, RightProgram, Owes, Fillable, Levelled, Solves};
 ghost use Rattle.search.specs.inner.States.{cells_of, Searchable, RowsPlanned};
 
-use crate::choices::{Extent, first_choice, two_to};
+use crate::choices::{Extent, best_list, two_to};
 use crate::rows::{levels_of, put_rows};
 
 // Cells, of 512 nodes at 24 clocks each; dues, of 1,024 edges at 24 clocks each; and of small searches.
@@ -28,7 +28,7 @@ const BITS: usize = 32;
 // Where the levels 0 to 24 begin, and where the last ends.
 const LEVELS: usize = 26;
 
-// found: `choice` is the smallest that gives what is due.
+// found: `choice` is the best list that gives what is due: fillings, then a choice.
 #[derive(Clone, Copy)]
 pub struct Choice {
     pub found: bool,
@@ -81,11 +81,12 @@ fn search_few<'a>(
     s: Size,
     due: &'a [u16],
     begin: &'a [u16],
+    fill: &[u16],
 ) -> Choice
-    requires searchable { Searchable s (program_of kind.now first.now operand.now) due.now begin.now }
+    requires searchable { Searchable s (program_of kind.now first.now operand.now) due.now begin.now fill.now }
     requires s_bound { (cells_of s ≤ 512) × (at begin.now s.edges ≤ 1024) }
     ensures { Solves s.bits (program_of kind.now first.now operand.now)
-        due.now (at begin.now s.edges) result.found result.choice }
+        due.now (at begin.now s.edges) fill.now result.found result.choice }
 {
     let mut level = [0u8; FEW_CELLS];
     let mut row = [0u16; FEW_DUES];
@@ -93,13 +94,9 @@ fn search_few<'a>(
     let e = plan(s, due, begin, &mut level, &mut row, &mut left);
     let mut truth = [0u16; FEW_CELLS];
     let mut sig = [0u8; BITS + FEW_CELLS];
-    let choice = first_choice(
-        kind, first, operand, &level, &row, &left, e, &mut truth, &mut sig,
-    );
-    Choice {
-        found: choice < two_to(s.bits),
-        choice,
-    }
+    best_list(
+        kind, first, operand, &level, &row, &left, fill, e, &mut truth, &mut sig,
+    )
 }
 
 // As many as there may be.
@@ -110,10 +107,11 @@ fn search_many<'a>(
     s: Size,
     due: &'a [u16],
     begin: &'a [u16],
+    fill: &[u16],
 ) -> Choice
-    requires { Searchable s (program_of kind.now first.now operand.now) due.now begin.now }
+    requires { Searchable s (program_of kind.now first.now operand.now) due.now begin.now fill.now }
     ensures { Solves s.bits (program_of kind.now first.now operand.now)
-        due.now (at begin.now s.edges) result.found result.choice }
+        due.now (at begin.now s.edges) fill.now result.found result.choice }
 {
     let mut level = [0u8; CELLS];
     let mut row = [0u16; DUES];
@@ -121,18 +119,14 @@ fn search_many<'a>(
     let e = plan(s, due, begin, &mut level, &mut row, &mut left);
     let mut truth = [0u16; CELLS];
     let mut sig = [0u8; BITS + CELLS];
-    let choice = first_choice(
-        kind, first, operand, &level, &row, &left, e, &mut truth, &mut sig,
-    );
-    Choice {
-        found: choice < two_to(s.bits),
-        choice,
-    }
+    best_list(
+        kind, first, operand, &level, &row, &left, fill, e, &mut truth, &mut sig,
+    )
 }
 
-// The smallest choice of k bits under which every cell gives what is due of it. Cells are in rising order of the leading bits that they depend on;
-// those of level m, which depend on m of them, from levels[m] on. A due 2 i + x asks x of cell i; a run of one edge's clocks goes from begin[e] up to
-// begin[e + 1].
+// The best list: fillings, then a choice of k bits under which every cell gives what is due of it. Cells are in rising order of the leading bits that they
+// depend on; those of level m, which depend on m of them, from levels[m] on. A due 2 i + x asks x of cell i; a run of one edge's clocks goes from begin[e] up
+// to begin[e + 1]. A filling i + 1 in `fill` is the value of cell i; of 0 nothing is asked, and it is 0.
 pub fn search<'a>(
     kind: &'a [u8],
     first: &'a [u16],
@@ -142,12 +136,14 @@ pub fn search<'a>(
     due: &'a [u16],
     begin: &'a [u16],
     edges: usize,
+    fill: &[u16],
 ) -> Choice
     requires right_program { RightProgram (at levels (suc k)) k (program_of kind.now first.now operand.now) }
     requires levelled { Levelled (at levels (suc k)) k (program_of kind.now first.now operand.now) levels }
     requires owes { Owes (at levels (suc k)) due.now begin.now edges }
+    requires fillable { Fillable (at levels (suc k)) k fill.now }
     ensures { Solves k (program_of kind.now first.now operand.now)
-        due.now (at begin.now edges) result.found result.choice }
+        due.now (at begin.now edges) fill.now result.found result.choice }
 {
     let s = Size {
         bits: k,
@@ -155,7 +151,7 @@ pub fn search<'a>(
         edges,
     };
     if levels[k as usize + 1] <= 512 && begin[edges] <= 1024 {
-        return search_few(kind, first, operand, s, due, begin);
+        return search_few(kind, first, operand, s, due, begin, fill);
     }
-    search_many(kind, first, operand, s, due, begin)
+    search_many(kind, first, operand, s, due, begin, fill)
 }

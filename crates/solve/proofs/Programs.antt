@@ -6,11 +6,13 @@
 --   new-levelled        its cells are ordered by level
 --   value_same          a cell has the value that it had under its old number
 --   new-owes, holds-new, holds-old     the dues ask the same of the same cells
+--   new-fillable, fills-new, fills-old     the fillings ask for the same cells
 --   search-ready        so it can be searched
---   solves-old          the smallest choice is the same
+--   solves-old          the best list is the same
 -- Why values are the same, by induction on the new number: an operand is a chosen bit, which stays, or a cell, which has a smaller number.
-use Prim.Native.Nat.{ℕ, zero, suc, ◌+◌, ◌-◌, ◌/◌, ◌%◌, ◌≤◌, ◌<◌}
+use Prim.Native.Nat.{ℕ, zero, suc, ◌+◌, ◌-◌, ◌^◌, ◌/◌, ◌%◌, ◌≤◌, ◌<◌}
 use native.Mathlib.Omega.{arith}
+use native.Mathlib.Decide.{ℕ_discrete}
 use mathlib.Core.Path.{◌≡◌, refl, sym, ap, ap₂, ◌∙◌}
 use mathlib.Core.Bool.{Bool, true, false}
 use mathlib.Core.Logic.{◌⊎◌, inl, inr, ⊎_elim}
@@ -18,12 +20,13 @@ use mathlib.Core.List.{List, ◌∷◌, map}
 use lib.ListN.{length, take, drop}
 use lib.Seq.{drop-cons}
 use Rattle.theory.specs.Gate.{gate}
+use Rattle.theory.specs.Move.{digit}
 use Rattle.graph.specs.Columns.{at}
-use Rattle.search.specs.inner.Program.{Program, look, valuesTo, value_at, RightProgram, Owes, GivesDues, Solves, Levelled}
+use Rattle.search.specs.inner.Program.{Program, look, valuesTo, value_at, RightProgram, Owes, GivesDues, Fillable, FillsTo, Fulfils, Solves, Levelled}
 use Rattle.solve.specs.inner.Parts.{OperandsWired, BitsBelow}
-use Rattle.solve.specs.inner.Numbers.{Ranked, ins, renumbered, ProgramRenumbered, Redue}
+use Rattle.solve.specs.inner.Numbers.{Ranked, ins, renumbered, ProgramRenumbered, Redue, Refill}
 use Rattle.search.proofs.Values.{look-bit, look-cell, values-at, value-gate}
-use Rattle.solve.proofs.Renumbering.{moved-bit, moved-cell, renumbered-room}
+use Rattle.solve.proofs.Renumbering.{moved-bit, moved-cell, refilled-none, one-filling, renumbered-room}
 
 mapped-same : (f g : ℕ → ℕ) (xs ys : List ℕ) (n a b : ℕ) → a + n ≤ length xs → b + n ≤ length ys
     → ((t : ℕ) → t < n → f (at xs (a + t)) ≡ g (at ys (b + t))) → map f (take n (drop a xs)) ≡ map g (take n (drop b ys))
@@ -181,6 +184,30 @@ module _ {cells k : ℕ} {P Q : Program} {id code levels : List ℕ} (f : RightP
         let e = r.paired.each i h in
         new-same (suc (at id i)) (at id i) (omega arith) e.0 ∙ ap (value_at P k c) e.1
 
+  -- ── The same fillings ───────────────────────────────────────────────────────────────────────
+
+  module _ {fill : List ℕ} (fills : List ℕ) (a : Fillable cells k fill) (q : Refill id (length fill) fill fills) (same : length fills ≡ length fill) where
+    new-fillable : Fillable cells k fills
+    new-fillable = record { few = omega arith; cell = λ x h. go x (omega arith) (ℕ_discrete (at fill x) 0) }
+      where
+        go : (x : ℕ) → x < length fill → Dec (at fill x ≡ 0) → at fills x ≤ cells
+        go x h (yes z) = omega (arith, (q x h).free z)
+        go x h (no z) = omega (arith, (q x h).read (omega arith), a.cell x h, (r.paired.each (at fill x - 1) (omega (arith, a.cell x h))).0)
+
+    fill-value : (c x : ℕ) → x < length fill → 0 < at fill x → value_at Q k c (at fills x - 1) ≡ value_at P k c (at fill x - 1)
+    fill-value c x h l =
+        let z : at fills x - 1 ≡ at id (at fill x - 1) = omega (arith, (q x h).read l) in
+        ap (value_at Q k c) z ∙ value_same c (at fill x - 1) (omega (arith, a.cell x h))
+
+    fills-old : (c : ℕ) → FillsTo k Q fills c → FillsTo k P fill c
+    fills-old c w x h =
+        one-filling (at fills x) (at fill x) (refilled-none (at fill x) (q x h)) (ap (λ n. digit (n + k) c x) same) (λ u. fill-value (c % 2 ^ k) x h) (w x (omega arith))
+
+    fills-new : (c : ℕ) → FillsTo k P fill c → FillsTo k Q fills c
+    fills-new c w x h =
+        let l : x < length fill = omega arith in
+        one-filling (at fill x) (at fills x) (q x l).free (ap (λ n. digit (n + k) c x) (sym same)) (λ y u. sym (fill-value (c % 2 ^ k) x l y)) (w x l)
+
   -- ── The same dues ───────────────────────────────────────────────────────────────────────────
 
   module _ {due begin : List ℕ} {edges : ℕ} (dues : List ℕ) (o : Owes cells due begin edges) (d : Redue id (at begin edges) due dues) where
@@ -209,11 +236,15 @@ module _ {cells k : ℕ} {P Q : Program} {id code levels : List ℕ} (f : RightP
     holds-new : (c : ℕ) → GivesDues k P due (at begin edges) c → GivesDues k Q dues (at begin edges) c
     holds-new c w x h = due-bit x h ∙ w x h ∙ sym (value-due c x h)
 
-    pub solves-old : (found : Bool) (c : ℕ) → Solves k Q dues (at begin edges) found c → Solves k P due (at begin edges) found c
-    solves-old true c w = (w.0, holds-old c w.1, λ e l v. w.2 e l (holds-new e v))
-    solves-old false c w = λ e l v. w e l (holds-new e v)
+    module _ {fill : List ℕ} (fills : List ℕ) (a : Fillable cells k fill) (r' : Refill id (length fill) fill fills) (same : length fills ≡ length fill) where
+      fulfils : (c : ℕ) → Fulfils k P due (at begin edges) fill c → Fulfils k Q dues (at begin edges) fills c
+      fulfils c v = (holds-new (c % 2 ^ k) v.0, fills-new fills a r' same c v.1)
 
-    -- In the words of `search`, which counts the cells by the end of the last level.
-    pub search-ready : cells ≤ length Q.kind → suc cells ≤ length Q.first → suc k < length levels → at begin edges ≤ length dues
-        → let n = at levels (suc k) in RightProgram n k Q × (Levelled n k Q levels × Owes n dues begin edges)
-    search-ready kind-rows first_rows level-rows due-rows = rw r.whole (new-program kind-rows first_rows, (new-levelled level-rows, new-owes due-rows))
+      pub solves-old : (found : Bool) (c : ℕ) → Solves k Q dues (at begin edges) fills found c → Solves k P due (at begin edges) fill found c
+      solves-old true c w = (rw (← same) w.0, (holds-old (c % 2 ^ k) w.1.0, fills-old fills a r' same c w.1.1), λ e l p v. w.2 e (rw same l) p (fulfils e v))
+      solves-old false c w = λ e l v. w e (rw same l) (fulfils e v)
+
+      -- In the words of `search`, which counts the cells by the end of the last level.
+      pub search-ready : cells ≤ length Q.kind → suc cells ≤ length Q.first → suc k < length levels → at begin edges ≤ length dues
+          → let n = at levels (suc k) in RightProgram n k Q × (Levelled n k Q levels × (Owes n dues begin edges × Fillable n k fills))
+      search-ready kind-rows first_rows level-rows due-rows = rw r.whole (new-program kind-rows first_rows, (new-levelled level-rows, (new-owes due-rows, new-fillable fills a r' same)))

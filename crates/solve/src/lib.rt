@@ -1,5 +1,5 @@
-// The smallest choice of bits under which a row of gates gives what is due, whatever the order of its cells: they are numbered anew, by the leading bits
-// that they depend on, and handed to the search.
+// The best list of fillings and a choice under which a row of gates gives what is due, whatever the order of its cells: they are numbered anew, by the
+// leading bits that they depend on, and handed to the search.
 // Internal: asks of the caller a right program.
 #![tactic(auto)]
 
@@ -9,10 +9,10 @@ mod spans;
 
 ghost use Rattle.std.specs.Prelude.{ℕ, suc, ◌≤◌, ◌<◌, length};
 ghost use Rattle.graph.specs.Columns.{at};
-ghost use Rattle.search.specs.inner.Program.{program_of, RightProgram, Owes, Solves};
+ghost use Rattle.search.specs.inner.Program.{program_of, RightProgram, Owes, Fillable, Solves};
 
 use crate::numbers::number_cells;
-use crate::renumber::{renumber_cells, renumber_dues};
+use crate::renumber::{renumber_cells, renumber_dues, renumber_fill};
 use search::{Choice, search};
 
 // Cells, of 512 nodes at 24 clocks each; their operands, of 1,024 edges at 24 clocks each; and of small searches.
@@ -40,18 +40,21 @@ fn solve_few<'a>(
     due: &mut [u16],
     begin: &'a [u16],
     edges: usize,
+    fill: &mut [u16],
 ) -> Choice
     requires right_program { RightProgram cells k (program_of kind.now first.now operand.now) }
     requires owes { Owes cells due.old begin.now edges }
+    requires fillable { Fillable cells k fill.old }
     requires cells_bound { (cells ≤ 512) × ((i : ℕ) → i < cells → at first.now (suc i) ≤ 2048) }
     ensures { Solves k (program_of kind.now first.now operand.now)
-        due.old (at begin.now edges) result.found result.choice }
+        due.old (at begin.now edges) fill.old result.found result.choice }
 {
     let total = begin[edges] as usize;
     let mut id = [NONE; FEW_CELLS];
     let mut code = [0u16; FEW_CELLS];
     let levels = number_cells(first, operand, cells, k, &due[..total], &mut id, &mut code);
     renumber_dues(due, total, &id);
+    renumber_fill(fill, &id);
     let mut kinds = [0u8; FEW_CELLS];
     let mut firsts = [0u16; FEW_CELLS + 1];
     let mut operands = [0u16; FEW_OPERANDS];
@@ -66,7 +69,9 @@ fn solve_few<'a>(
         &mut firsts,
         &mut operands,
     );
-    search(&kinds, &firsts, &operands, levels, k, due, begin, edges)
+    search(
+        &kinds, &firsts, &operands, levels, k, due, begin, edges, fill,
+    )
 }
 
 // As many as there may be.
@@ -79,18 +84,21 @@ fn solve_many<'a>(
     due: &mut [u16],
     begin: &'a [u16],
     edges: usize,
+    fill: &mut [u16],
 ) -> Choice
     requires right_program { RightProgram cells k (program_of kind.now first.now operand.now) }
     requires owes { Owes cells due.old begin.now edges }
+    requires fillable { Fillable cells k fill.old }
     requires by_index { (i : ℕ) → i < cells → at first.now (suc i) ≤ 24576 }
     ensures { Solves k (program_of kind.now first.now operand.now)
-        due.old (at begin.now edges) result.found result.choice }
+        due.old (at begin.now edges) fill.old result.found result.choice }
 {
     let total = begin[edges] as usize;
     let mut id = [NONE; CELLS];
     let mut code = [0u16; CELLS];
     let levels = number_cells(first, operand, cells, k, &due[..total], &mut id, &mut code);
     renumber_dues(due, total, &id);
+    renumber_fill(fill, &id);
     let mut kinds = [0u8; CELLS];
     let mut firsts = [0u16; CELLS + 1];
     let mut operands = [0u16; OPERANDS];
@@ -105,10 +113,13 @@ fn solve_many<'a>(
         &mut firsts,
         &mut operands,
     );
-    search(&kinds, &firsts, &operands, levels, k, due, begin, edges)
+    search(
+        &kinds, &firsts, &operands, levels, k, due, begin, edges, fill,
+    )
 }
 
-// The smallest choice of k bits under which every cell gives what is due of it. The dues are left with other numbers of cells.
+// The best list: fillings, each the value of its cell in `fill`, then a choice of k bits under which every cell gives what is due of it.
+// The dues and `fill` are left with other numbers of cells.
 pub fn solve<'a>(
     kind: &'a [u8],
     first: &'a [u16],
@@ -118,14 +129,16 @@ pub fn solve<'a>(
     due: &mut [u16],
     begin: &'a [u16],
     edges: usize,
+    fill: &mut [u16],
 ) -> Choice
     requires right_program { RightProgram cells k (program_of kind.now first.now operand.now) }
     requires owes { Owes cells due.old begin.now edges × (length operand.now ≤ 24576) }
+    requires fillable { Fillable cells k fill.old }
     ensures { Solves k (program_of kind.now first.now operand.now)
-        due.old (at begin.now edges) result.found result.choice }
+        due.old (at begin.now edges) fill.old result.found result.choice }
 {
     if cells <= 512 && first[cells] <= 2048 {
-        return solve_few(kind, first, operand, cells, k, due, begin, edges);
+        return solve_few(kind, first, operand, cells, k, due, begin, edges, fill);
     }
-    solve_many(kind, first, operand, cells, k, due, begin, edges)
+    solve_many(kind, first, operand, cells, k, due, begin, edges, fill)
 }

@@ -4,7 +4,7 @@ ghost use Rattle.std.specs.Prelude.{◌≡◌, ℕ, suc, ◌+◌, ◌-◌, ◌*�
 ghost use Rattle.graph.specs.Columns.{at};
 ghost use Rattle.search.specs.inner.Program.{program_of};
 ghost use Rattle.solve.specs.inner.Parts.{OperandsWired};
-ghost use Rattle.solve.specs.inner.Numbers.{Paired, renumbered, Copied, ProgramRenumbered, Redue};
+ghost use Rattle.solve.specs.inner.Numbers.{Paired, renumbered, Copied, ProgramRenumbered, Redue, Refilled, Refill};
 
 // An operand: a chosen bit stays, a cell has its new number.
 fn renumbered(x: u16, id: &[u16]) -> u16
@@ -87,6 +87,30 @@ pub fn renumber_dues(due: &mut [u16], total: usize, id: &[u16])
     while x < total {
         let i = (due[x] / 2) as usize;
         due[x] = id[i] * 2 + due[x] % 2;
+        x += 1;
+    }
+}
+
+// What a filling asks for: nothing, or a cell, which has its new number.
+fn refilled(place: u16, id: &[u16]) -> u16
+    requires { 0 < place → (place ≤ length id.now) × (at id.now (place - 1) < 12288) }
+    ensures { Refilled id.now place result }
+{
+    if place == 0 {
+        0
+    } else {
+        id[place as usize - 1] + 1
+    }
+}
+
+// What fillings ask for, each the same cell under its new number.
+pub fn renumber_fill(fill: &mut [u16], id: &[u16])
+    requires { (x : ℕ) → x < length fill.old → 0 < at fill.old x → (at fill.old x ≤ length id.now) × (at id.now (at fill.old x - 1) < 12288) }
+    ensures { Refill id.now (length fill.old) fill.old fill.new }
+{
+    let mut x = 0;
+    while x < fill.len() {
+        fill[x] = refilled(fill[x], id);
         x += 1;
     }
 }

@@ -1,7 +1,7 @@
 -- The cells put together.
 --   Wirable             what `wire` asks for, whatever the order in which it finds the edges
 --   Wires               the operands stand, by the edges that enter each node
---   Chooses             the search's answer: the smallest choice that carries the start, or that none does
+--   Chooses             the search's answer: the best choice that carries the start, or that none does
 --   Standing            a right program, whose cells give what is due exactly where the choice carries the start
 use Rattle.std.specs.Prelude.{◌≡◌, Bool, true, false, ◌↔◌, List, ℕ, ◌<◌, ◌≤◌, ℤ, length}
 use Rattle.theory.specs.Move.{sum}

@@ -5,13 +5,16 @@ use Rattle.search.specs.inner.Program.{program_of}
 use Rattle.search.proofs.Solved.{solves-planned}
 use Rattle.search.proofs.search_many.Goals as goal
 
-pub first_choice-choice-requires : goal.first_choice-choice-requires
-first_choice-choice-requires c =
+pub best_list-requires : goal.best_list-requires
+best_list-requires c =
     let g = c.requires in
     let e = c.plan-e.ensures in
-    (e.plan _ g.program g.levelled, (omega (arith, e.cells, g.program.few-cells), omega (arith, e.cells, g.program.few-cells), λ x h. get_or-replicate {A = ℕ} 12320 x 0 0 (omega arith)))
+    record {
+      planned = (e.plan _ g.program g.levelled, (omega (arith, e.cells, g.program.few-cells), omega (arith, e.cells, g.program.few-cells), λ x h. get_or-replicate {A = ℕ} 12320 x 0 0 (omega arith)));
+      fillable = rw (e.cells, e.bits) g.fillable;
+    }
 
 pub returns : goal.returns
 returns c =
     let a = c.args in
-    solves-planned c.plan-e.ensures (program_of a.kind.now a.first.now a.operand.now) _ c.first_choice-choice.result c.two_to.ensures c.first_choice-choice.ensures
+    solves-planned c.plan-e.ensures (program_of a.kind.now a.first.now a.operand.now) a.fill.now _ _ c.best_list.ensures

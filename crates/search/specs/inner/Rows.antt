@@ -23,6 +23,7 @@ RowsEnd left a b = (d : ℕ) → a ≤ d → d < b → (1 ≤ at left d) × (d +
 pub record Rows (many : ℕ) (level row left rows : List ℕ) : Type 0 where
   pub low : (m d : ℕ) → m ≤ many → d < at rows m → at level (at row d / 2) < m
   pub ends : RowsEnd left 0 (at rows many)
+  pub most : (m : ℕ) → m ≤ many → at rows m ≤ at rows many
 
 pub record SameDues (due : List ℕ) (total : ℕ) (row : List ℕ) (dues : ℕ) : Type 0 where
   pub few : dues ≤ total

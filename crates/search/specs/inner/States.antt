@@ -11,19 +11,22 @@
 --   EvaluatedTo         what it does: under whatever choice that was, those below r are, and r is the larger of `start` and `end`
 --   Advanced            what `advance` does: the bits are those of the first choice that differs in one of the first m; it agrees on the first r − 1
 --   Jumped              what `jump` does: that choice, and the first cell and the first due that depend on a changed bit
+--   ListOf              the list of a choice: its fillings are read off their cells, and one that nothing asks for is 0
+--   Better              the better of the best list so far and another: neither is preferred to it
 --   Plan                what the search is given: a right program whose cells are ordered by level, and what is due of them in rows
 --   Fresh               its columns: room for the truth words and the signals, and every chosen bit 0
 --   cells_of             how many cells there are: the last level ends with them
---   Searchable          what can be searched: a right program, levelled, and what is due of it
+--   Searchable          what can be searched: a right program, levelled, what is due of it, and what fillings ask for
 --   RowsPlanned         what `plan` does: that plan, and the rows hold what is due
-use Rattle.std.specs.Prelude.{◌≡◌, List, ℕ, suc, ◌+◌, ◌-◌, ◌*◌, ◌^◌, ◌/◌, ◌<◌, ◌≤◌, length}
-use Rattle.theory.specs.Move.{digit}
+use Rattle.std.specs.Prelude.{◌≡◌, true, ◌⊎◌, List, ℕ, suc, ◌+◌, ◌-◌, ◌*◌, ◌^◌, ◌/◌, ◌%◌, ◌<◌, ◌≤◌, length}
+use Rattle.theory.specs.Move.{digit, Prefers}
 use Rattle.graph.specs.Columns.{at}
 use Rattle.gates.specs.inner.Gates.{Reckons, Table}
+use Rattle.search.specs.declared.Choice.{Choice}
 use Rattle.search.specs.declared.Size.{Size}
 use Rattle.search.specs.declared.choices.Extent.{Extent}
 use Rattle.search.specs.declared.choices.Turn.{Turn}
-use Rattle.search.specs.inner.Program.{Program, program_of, RightProgram, Owes, Levelled, value_at}
+use Rattle.search.specs.inner.Program.{Program, program_of, RightProgram, Owes, Fillable, Levelled, value_at}
 use Rattle.search.specs.inner.Rows.{Level, Rows, SameDues}
 
 -- ── Cells ───────────────────────────────────────────────────────────────────────────────────
@@ -99,6 +102,20 @@ pub record Jumped (c k m : ℕ) (levels rows old sig : List ℕ) (t : Turn) : Ty
   pub cell_at : t.cell ≡ at levels level
   pub due-at : t.due ≡ at rows level
 
+-- ── Lists ───────────────────────────────────────────────────────────────────────────────────
+
+pub record ListOf (k : ℕ) (fill sig : List ℕ) (c r : ℕ) : Type 0 where
+  pub few : r < 2 ^ (length fill + k)
+  pub choice : r % 2 ^ k ≡ c
+  pub free : (x : ℕ) → x < length fill → at fill x ≡ 0 → digit (length fill + k) r x ≡ 0
+  pub read : (x : ℕ) → x < length fill → 0 < at fill x → digit (length fill + k) r x ≡ at sig (31 + at fill x)
+
+pub record Better (best : Choice) (list : ℕ) (r : Choice) : Type 0 where
+  pub found : r.found ≡ true
+  pub one : (r.choice ≡ list) ⊎ ((best.found ≡ true) × (r.choice ≡ best.choice))
+  pub over_list : ¬ Prefers list r.choice
+  pub over_best : best.found ≡ true → ¬ Prefers best.choice r.choice
+
 -- ── The search ──────────────────────────────────────────────────────────────────────────────
 
 pub record Plan (e : Extent) (P : Program) (level row left : List ℕ) : Type 0 where
@@ -121,10 +138,11 @@ Fresh cells truth sig = (cells ≤ length truth) × (32 + cells ≤ length sig) 
 abbrev pub cells_of : Size → ℕ
 cells_of s = at s.levels (suc s.bits)
 
-pub record Searchable (s : Size) (P : Program) (due begin : List ℕ) : Type 0 where
+pub record Searchable (s : Size) (P : Program) (due begin fill : List ℕ) : Type 0 where
   pub program : RightProgram (cells_of s) s.bits P
   pub levelled : Levelled (cells_of s) s.bits P s.levels
   pub owes : Owes (cells_of s) due begin s.edges
+  pub fillable : Fillable (cells_of s) s.bits fill
 
 -- Whatever right program this is.
 pub record RowsPlanned (s : Size) (due begin level row left : List ℕ) (e : Extent) : Type 0 where

@@ -1,4 +1,4 @@
--- `solve::solve_many` meets its contract: its columns are long enough; what is searched is the program under the new numbers, and it has the same smallest choice.
+-- `solve::solve_many` meets its contract: its columns are long enough; what is searched is the program under the new numbers, and its best list is the same.
 use Rattle.std.proofs.Common.{ℕ, suc, ◌≤◌, ◌<◌, length, arith}
 use lib.ListN.{length-take, length-replicate, get_or-replicate}
 use lib.Seq.{get_or-take}
@@ -29,13 +29,14 @@ search-requires c =
     let fits : (i : ℕ) → i < c.args.cells → at c.args.first.now (suc i) ≤ length c.renumber_cells.new.operands =
     λ i h. omega (arith, c.renumber_cells.auto.operands, length-replicate {A = ℕ} 24576 0, c.requires.by_index i h) in
     let t = search-ready f c.number_cells-levels.ensures c.renumber_cells.ensures fits c.renumber_dues.new.due c.requires.owes c.renumber_dues.ensures
+    c.renumber_fill.new.fill c.requires.fillable c.renumber_fill.ensures c.renumber_fill.auto.fill
     (omega (arith, c.renumber_cells.auto.kinds, length-replicate {A = ℕ} 12288 0)) (omega (arith, c.renumber_cells.auto.firsts, length-replicate {A = ℕ} 12289 0))
     (omega (arith, c.type_inv, f.few_bits)) (omega (arith, c.renumber_dues.auto.due, c.requires.owes.due-rows)) in
-    record { right_program = t.0; levelled = t.1.0; owes = t.1.1 }
+    record { right_program = t.0; levelled = t.1.0; owes = t.1.1.0; fillable = t.1.1.1 }
 
 pub returns : goal.returns
 returns c =
     let fits : (i : ℕ) → i < c.args.cells → at c.args.first.now (suc i) ≤ length c.renumber_cells.new.operands =
     λ i h. omega (arith, c.renumber_cells.auto.operands, length-replicate {A = ℕ} 24576 0, c.requires.by_index i h) in
     solves-old c.requires.right_program c.number_cells-levels.ensures c.renumber_cells.ensures fits c.renumber_dues.new.due c.requires.owes c.renumber_dues.ensures
-    c.search.result.found c.search.result.choice c.search.ensures
+    c.renumber_fill.new.fill c.requires.fillable c.renumber_fill.ensures c.renumber_fill.auto.fill c.search.result.found c.search.result.choice c.search.ensures

@@ -17,6 +17,7 @@
 --   Copied              the operands at the places from lo up to hi of one program are, renumbered, those of another from `start` on
 --   ProgramRenumbered          the program of the first n cells under the new numbers
 --   Redue               the dues under the new numbers
+--   Refilled, Refill    what a filling asks for under the new numbers, and what the first n do
 use Rattle.std.specs.Prelude.{◌≡◌, cond, ◌⊎◌, List, ℕ, suc, ◌+◌, ◌-◌, ◌*◌, ◌/◌, ◌%◌, ◌<◌, ◌≤◌, ltb, length}
 use Rattle.graph.specs.Columns.{at}
 use Rattle.graph.specs.inner.Lists.{Appended}
@@ -126,3 +127,10 @@ pub record ProgramRenumbered (n : ℕ) (P : Program) (id code : List ℕ) (Q : P
 
 abbrev pub Redue : List ℕ → ℕ → List ℕ → List ℕ → Type 0
 Redue id n old due = (x : ℕ) → x < n → at due x ≡ at id (at old x / 2) * 2 + at old x % 2
+
+pub record Refilled (id : List ℕ) (old new : ℕ) : Type 0 where
+  pub free : old ≡ 0 → new ≡ 0
+  pub read : 0 < old → new ≡ at id (old - 1) + 1
+
+abbrev pub Refill : List ℕ → ℕ → List ℕ → List ℕ → Type 0
+Refill id n old fill = (x : ℕ) → x < n → Refilled id (at old x) (at fill x)

@@ -1,5 +1,5 @@
 -- What retiming owes, without bytes. proofs/retimer/Demand shows it of every sound netlist; retime's demand 3 rests on it.
---   Solution            the answer: the least retiming's lags, and the smallest number that carries the start there
+--   Solution            the answer: the least retiming's lags, and the best number that carries the start there
 --   Verdict             the retimer's five ends
 --   Demand              demand 3 of a circuit
 use Rattle.std.specs.Prelude.{◌≡◌, List, ℕ, ◌<◌, ℤ}
@@ -9,7 +9,7 @@ use Rattle.theory.specs.Lag.{Least}
 use Rattle.theory.specs.Move.{Moved, choice_of, Best}
 use Rattle.theory.specs.Retimer.{NoRetiming, Possible, retimed, NoStart, TooWide, Narrow, TooMany}
 
--- The answer: the least retiming's lags, and the smallest number that carries the start there.
+-- The answer: the least retiming's lags, and the best number that carries the start there.
 pub record Solution (gate : ℕ → List ℕ → ℕ) (G : Graph) (R : Regs) (delay : ℕ → ℕ) (period : ℕ) (r : ℕ → ℤ) (c : ℕ) : Type 0 where
   pub least : Least G R.count delay period r
   pub best : Best gate G R r c
