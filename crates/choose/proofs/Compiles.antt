@@ -28,7 +28,7 @@ use Rattle.graph.specs.Columns.{at, bit}
 use Rattle.netlist.specs.declared.Netlist.{Netlist}
 use Rattle.netlist.specs.Net.{graph_of, regs_of}
 use Rattle.netlist.specs.Circuit.{SoundIn, choiceAt, chosenInAt}
-use Rattle.netlist.specs.inner.Words.{CarriedAt, LegalAt, chosenOnAt, newCountAt, movedRegs}
+use Rattle.netlist.specs.inner.Words.{CarriedAt, LegalAt, chosenOnAt, newCountAt, retimedAt}
 use Rattle.search.specs.inner.Program.{program_of, look, valuesTo, value_at, RightProgram, GivesDues, Fulfils, Solves}
 use Rattle.search.proofs.Values.{look-bit, look-cell, values-at, value-gate}
 use Rattle.choose.specs.inner.Cells.{source, Compiled}
@@ -39,7 +39,7 @@ use Rattle.choose.proofs.Programs.{operand_at}
 
 -- The moved netlist's registers, and its values with all inputs at 0.
 abbrev pub after : Netlist → (ℕ → ℤ) → ℕ → Regs
-after net r c = movedRegs net r c
+after net r c = retimedAt net r c
 
 abbrev pub given : Netlist → (ℕ → ℤ) → ℕ → ℕ → ℕ → ℕ
 given net r c = value gate (graph_of net) (after net r c) quiet
@@ -108,7 +108,7 @@ module _ (net : Netlist) (ok : SoundIn net) (r : ℕ → ℤ) (legal : LegalAt n
 
   -- By induction on the clock and, within it, on the order of the nodes, in the moved netlist, which has no loop without a register. A node of positive lag is no pin,
   -- so its value is its gate's over what it sees, and so is its cell's.
-  pub cell-value : (c v t : ℕ) → v < net.nodes → t < up (r v) → value_at (program_of kind first operand) k c (cell v t) ≡ value gate (graph_of net) (movedRegs net r c) quiet v t
+  pub cell-value : (c v t : ℕ) → v < net.nodes → t < up (r v) → value_at (program_of kind first operand) k c (cell v t) ≡ value gate (graph_of net) (retimedAt net r c) quiet v t
   unfolding sees move
   cell-value c =
       clock-induction (graph_of net) ok.wired (after net r c) (new-no-loop gate (graph_of net) ok.wired (regs_of net) ok.no_loop r legal choice)

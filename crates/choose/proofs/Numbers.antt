@@ -1,4 +1,6 @@
 -- The cells, numbered one by one.
+--   lags-more           no lag is above so many clocks, one node further
+--   numbered-none       no cell yet
 --   numbered-miss, numbered-hit    one place further: without a cell, with a cell
 --   numbered-clock      a clock is done
 --   numbered-rest       no lag is above the clocks that are done: all clocks are
@@ -8,13 +10,27 @@ use native.Mathlib.Decide.{ℕ_discrete}
 use mathlib.Core.Path.{◌≡◌, refl, sym, subst, ap, ◌∙◌}
 use mathlib.Core.Logic.{◌⊎◌, inl, inr, ⊎_elim}
 use mathlib.Core.List.{List}
-use lib.ListN.{set, length-set}
+use borrow.Author.Count.{below_more}
+use lib.ListN.{length, set, length-set}
 use lib.Seq.{get_or-set_same, get_or-set_other}
 use Rattle.graph.specs.Columns.{at}
 use Rattle.graph.specs.inner.Sort.{Stands}
-use Rattle.choose.specs.inner.Numbers.{Arranged, EarlierCell, CellNumbered, CellsNumbered}
+use Rattle.choose.specs.inner.Numbers.{lagAt, LagsBelow, Arranged, EarlierCell, CellNumbered, CellsNumbered}
+
+pub lags-more : {lab : List ℕ} {v top new : ℕ} → LagsBelow lab v top → top ≤ new → new ≤ 24 → lagAt lab v ≤ new → LagsBelow lab (v + 1) new
+lags-more s up few here = record { few = few; low = below_more _ _ (λ u h. omega (arith, s.low u h)) here }
 
 module _ (lag : ℕ → ℕ) (order : List ℕ) (nodes : ℕ) where
+  pub numbered-none : (id code : List ℕ) → length id ≡ 16384 → length code ≡ 12288 → CellsNumbered lag order nodes 0 0 0 id code
+  numbered-none id code a b = record {
+    few = omega arith;
+    id-rows = a;
+    code-rows = b;
+    inside = λ v s h l w. absurd (⊎_elim (λ (k : s < 0). let z : ⊥ = omega arith in z) (λ (k : (s ≡ 0) × Stands order 0 v). let z : ⊥ = omega (arith, k.1.within) in z) w);
+    back = λ v s h l w. absurd (⊎_elim (λ (k : s < 0). let z : ⊥ = omega arith in z) (λ (k : (s ≡ 0) × Stands order 0 v). let z : ⊥ = omega (arith, k.1.within) in z) w);
+    each = λ i h. absurd (let z : ⊥ = omega arith in z);
+  }
+
   stands-more : (p q v : ℕ) → p ≤ q → Stands order p v → Stands order q v
   stands-more p q v h s = record { place = s.place; within = omega (arith, s.within); holds = s.holds }
 

@@ -1,6 +1,6 @@
 -- Dues one by one: runs of clocks, and in a run edge by edge.
---   rows_more           one run further: how many rows there are
---   run_ends            a run of clocks ends
+--   rows_none, rows_more    one run further: how many rows there are
+--   dues-none, run-begins, run_ends     a run of clocks begins, and ends
 --   few-appended        of one edge no more is put than the run has clocks
 --   run_room            the room that one more edge takes
 --   dues-more           one edge further
@@ -19,6 +19,9 @@ use Rattle.netlist.specs.declared.Netlist.{Netlist}
 use Rattle.graph.specs.inner.Lists.{Appended}
 use Rattle.choose.specs.inner.Dues.{cell_at, Carry, dueOf, Owed, due_at, DuesTo, FewRows}
 
+pub rows_none : FewRows 0 0
+rows_none = record { at-0 = λ l. omega arith; to-1 = λ l. omega arith; to-3 = λ l. omega arith; to-7 = λ l. omega arith; to-15 = λ l. omega arith; to-24 = omega arith }
+
 pub rows_more : (low high rows edges more : ℕ) → low < 24 → edges ≤ 1024 → high ≡ min (2 * low + 1) 24 → more ≤ rows + edges → FewRows low rows → FewRows high more
 rows_more low high rows edges more h few q up r = record {
   at-0 = λ l. absurd (let z : ⊥ = omega arith in z);
@@ -34,8 +37,28 @@ pub few-appended : (w l low high n r : ℕ) → low ≤ high → r ≡ n + (min 
 few-appended w l low high n r up q = omega arith
 
 module _ (net : Netlist) (lag : ℕ → ℕ) (id along : List ℕ) where
-  -- A run ends.
+  pub dues-none : (due begin : List ℕ) → at begin 0 ≡ 0 → DuesTo net lag id along 0 0 0 0 due begin (at begin 0)
+  dues-none due begin q = record {
+    none = q;
+    rising = λ e h. absurd (let z : ⊥ = omega arith in z);
+    last = refl;
+    few = omega arith;
+    sound = λ x h. absurd (let z : ⊥ = omega arith in z);
+    complete = λ j s t h l. absurd (let z : ⊥ = omega arith in z);
+  }
+
+  -- A run begins, and ends.
   module _ (low high rows total : ℕ) (due begin : List ℕ) where
+    pub run-begins : DuesTo net lag id along low low 0 rows due begin total → DuesTo net lag id along low high 0 rows due begin total
+    run-begins d = record {
+      none = d.none;
+      rising = d.rising;
+      last = d.last;
+      few = omega (arith, d.few);
+      sound = d.sound;
+      complete = λ j s t h l k. d.complete j s t h (k (omega arith)) k;
+    }
+
     pub run_ends : (n : ℕ) → n ≡ net.edges → net.edges ≤ 1024 → low ≤ high → DuesTo net lag id along low high n rows due begin total → DuesTo net lag id along high high 0 rows due begin (at begin rows)
     run_ends n all few up d =
         rw d.last (record {

@@ -1,11 +1,15 @@
 -- Operands one by one.
+--   source-chosen, source-cell    the two cases of `sourceAt`
 --   operands-none, operands-more    one cell further
 use Prim.Native.Nat.{ℕ, ◌+◌, ◌/◌, ◌%◌, ◌≤◌, ◌<◌}
 use native.Mathlib.Omega.{arith}
 use native.Mathlib.Decide.{ℕ_discrete}
 use mathlib.Core.Path.{◌≡◌, sym, subst, ap, ◌∙◌}
+use mathlib.Core.Bool.{cond}
 use mathlib.Core.List.{List}
+use lib.Dec.{ltb}
 use lib.ListN.{length, set}
+use borrow.Author.Tests.{lt-ltb, le-ltb}
 use Rattle.theory.specs.Move.{sum}
 use Rattle.graph.specs.Columns.{at}
 use Rattle.graph.specs.inner.Lists.{Appended}
@@ -13,6 +17,12 @@ use Rattle.choose.specs.inner.Sources.{sourceAt, width_at, Operands}
 use Rattle.theory.proofs.numbers.Sums.{sum_more, sum-grows}
 use Rattle.moves.proofs.Labels.{base-none}
 use Rattle.graph.proofs.Fills.{fill_more}
+
+pub source-chosen : (t count a b : ℕ) → t < count → a ≡ cond (ltb t count) a b
+source-chosen t count a b h = rw (lt-ltb t count h)
+
+pub source-cell : (t count a b : ℕ) → count ≤ t → b ≡ cond (ltb t count) a b
+source-cell t count a b h = rw (le-ltb t count h)
 
 module _ (from ins begin counts base id code : List ℕ) where
   pub operands-none : (first operand : List ℕ) → at first 0 ≡ 0 → Operands from ins begin counts base id code 0 first operand

@@ -5,7 +5,7 @@ ghost use Rattle.graph.specs.Columns.{at};
 ghost use Rattle.moves.specs.inner.Labels.{lagsOf};
 ghost use Rattle.moves.specs.inner.Moving.{Choosing};
 ghost use Rattle.choose.specs.inner.Numbers.{LagsBelow};
-ghost use Rattle.choose.specs.inner.Wires.{Chooses, Wirable, OperandsByEdge, Standing};
+ghost use Rattle.choose.specs.inner.Wires.{Chooses, Wirable, Wires, Standing};
 ghost use Rattle.choose.specs.inner.Chosen.{Chosen};
 
 use crate::cells::{number_cells, operands_of, order_of, put_kinds};
@@ -30,7 +30,7 @@ fn wire(
 )
     requires wirable { Wirable net counts.now base.now id.now code.now cells }
     requires id_len { (length id.now ≡ 16384) × (length code.now ≡ 12288) × (length first.old ≡ 12289) × (length operand.old ≡ 24576) }
-    ensures { OperandsByEdge net counts.now base.now id.now code.now cells first.new operand.new }
+    ensures { Wires net counts.now base.now id.now code.now cells first.new operand.new }
 {
     let nodes = net.nodes as usize;
     let edges = net.edges as usize;

@@ -1,6 +1,6 @@
 -- A row of gates, a turn at a time.
 --   bits-set            a bit put among bits
---   seen-bits           what a gate sees is bits
+--   seen-bits, placed-seen    what a gate sees is bits, and in place
 --   evaluated-more, evaluated-length, evaluated-bits    one gate more; as many signals; bits
 use Prim.Native.Nat.{ℕ, zero, suc, ◌+◌, ◌-◌, ◌<◌, ◌≤◌}
 use native.Mathlib.Omega.{arith}
@@ -13,7 +13,7 @@ use lib.Seq.{get_or-set_same, get_or-set_other, set_out}
 use Rattle.theory.specs.Gate.{gate}
 use Rattle.theory.proofs.clocks.Gate.{gate-bit}
 use Rattle.graph.specs.Columns.{at}
-use Rattle.gates.specs.inner.Gates.{part, AllBits, InputRows, evaluated}
+use Rattle.gates.specs.inner.Gates.{part, AllBits, InputRows, evaluated, GateRows}
 use Rattle.gates.proofs.Words.{part_length, part_at, bits-map}
 
 pub bits-set : (sig : List ℕ) (i x : ℕ) → x ≤ 1 → AllBits sig → AllBits (set sig i x)
@@ -29,6 +29,16 @@ seen-bits truth list lo hi sig s = bits-map (at sig) (part list lo hi) (λ i h. 
   where
     one : (i : ℕ) → i < hi - lo → at sig (at (part list lo hi) i) ≤ 1
     one i h = rw (part_at list lo hi i h) (s.signals (lo + i) (omega arith) (omega arith)).1
+
+-- The signals of a gate that has its place, among signals that are as many as there were before, and bits.
+pub placed-seen : (truth first list : List ℕ) (base : ℕ) (old sig : List ℕ) (v : ℕ) → GateRows truth first list base (length old) v → length sig ≡ length old → AllBits sig
+    → InputRows (at truth v) list (at first v) (at first (v + 1)) sig
+placed-seen truth first list base old sig v p e b = rw add-one record {
+  up = p.up;
+  in_list = p.in_list;
+  narrow = p.narrow;
+  signals = λ j l h. (omega (arith, p.signals j l h), b (at list j));
+}
 
 -- ── The signals ─────────────────────────────────────────────────────────────────────────────
 

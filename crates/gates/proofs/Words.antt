@@ -18,7 +18,7 @@ use lib.ListN.{length, take, drop, length-take, length-drop}
 use lib.Seq.{drop-cons, get_or-take, get_or-drop}
 use Rattle.theory.specs.Gate.{ones as total}
 use Rattle.graph.specs.Columns.{at}
-use Rattle.gates.specs.inner.Gates.{part, AllBits, wordFrom, WordSmall}
+use Rattle.gates.specs.inner.Gates.{part, AllBits, wordFrom, Narrow}
 
 -- ── Parts of a list ─────────────────────────────────────────────────────────────────────────
 
@@ -63,7 +63,7 @@ word_below w (x ∷ l) b =
     (omega (arith, word_below (w * 2 + x) l (λ i. b (suc i)), mul-le-mul_right (2 ^ length l) k))
 
 -- `gather` is asked with the seed alone, as a truth word that has nothing below it.
-pub seed-narrow : (seed n : ℕ) → WordSmall (seed * 512) n → suc seed * 2 ^ n ≤ 264
+pub seed-narrow : (seed n : ℕ) → Narrow (seed * 512) n → suc seed * 2 ^ n ≤ 264
 seed-narrow seed n h = subst (λ d. suc d * 2 ^ n ≤ 264) (let z : seed * 512 / 512 ≡ seed = omega arith in z) h
 
 ones_bit : (x : ℕ) → x ≤ 1 → ones x ≡ x

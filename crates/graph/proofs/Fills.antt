@@ -1,13 +1,13 @@
 -- Lists that loops fill, one store a turn.
 --   fill-with           from the front: one element further, whatever is said of each
 --   fill_more           so where each is f of its place
---   appended-more       from a place on: one further
---   filtered-hit, filtered-miss    with the members of another list that have a property: the next has it, or not
-use Prim.Native.Nat.{ℕ, suc, ◌+◌, ◌≤◌, ◌<◌}
+--   appended-none, appended-more, appended-cut    from a place on: none yet, one further, all of them
+--   filtered-none, filtered-hit, filtered-miss    with the members of another list that have a property: none yet; the next has it, or not
+use Prim.Native.Nat.{ℕ, suc, ◌+◌, ◌-◌, ◌≤◌, ◌<◌}
 use native.Mathlib.Omega.{arith}
 use native.Mathlib.Numerals.{add-one}
 use native.Mathlib.Decide.{ℕ_discrete}
-use mathlib.Core.Path.{◌≡◌, sym, subst, ap, ◌∙◌}
+use mathlib.Core.Path.{◌≡◌, refl, sym, subst, ap, ◌∙◌}
 use mathlib.Core.List.{List}
 use lib.ListN.{length, set, length-set}
 use lib.Seq.{get_or-set_same, get_or-set_other}
@@ -33,6 +33,9 @@ fill_more f = fill-with (λ k x. x ≡ f k)
 -- ── From a place on ─────────────────────────────────────────────────────────────────────────
 
 module _ (f : ℕ → ℕ) where
+  pub appended-none : (old : List ℕ) (lo start : ℕ) → Appended f old old lo lo start
+  appended-none old lo start = record { rows = refl; kept = λ j h. refl; added = λ k h. absurd (let z : ⊥ = omega arith in z) }
+
   pub appended-more : (old new : List ℕ) (lo k start n x : ℕ) → Appended f old new lo k start → lo ≤ k → n + lo ≡ start + k → n < length new → x ≡ f k
       → Appended f old (set new n x) lo (k + 1) start
   appended-more old new lo k start n x s l q h e = record {
@@ -46,9 +49,17 @@ module _ (f : ℕ → ℕ) where
           ap (at (set new n x)) (let z : start + i ≡ n = omega arith in z) ∙ get_or-set_same new n x 0 h ∙ e ∙ ap f (sym y)
       go i m (no y) = get_or-set_other new n (start + i) x 0 (let z : ¬ (start + i ≡ n) = λ w. omega arith in z) ∙ s.added i (omega arith)
 
+  -- All of those up to hi are put, which may be none.
+  pub appended-cut : (old new : List ℕ) (lo hi k start n : ℕ) → Appended f old new lo k start → lo ≤ k → hi ≤ k → k ≤ lo + (hi - lo) → n + lo ≡ start + k
+      → (n ≡ start + (hi - lo)) × Appended f old new lo hi start
+  appended-cut old new lo hi k start n s l h u q = (omega arith, record { rows = s.rows; kept = s.kept; added = λ i m. s.added i (omega arith) })
+
 -- ── With the members that have a property ───────────────────────────────────────────────────
 
 module _ (P : ℕ → Type 0) (old : List ℕ) where
+  pub filtered-none : (new : List ℕ) → Filtered P old 0 new 0
+  filtered-none new = record { few = omega arith; each = λ i h. absurd (let z : ⊥ = omega arith in z); every = λ p h. absurd (let z : ⊥ = omega arith in z) }
+
   module _ (i : ℕ) (new : List ℕ) (r : ℕ) (s : Filtered P old i new r) where
     wider : (j : ℕ) → j < r → FilteredAt P old (suc i) new j
     wider j h =

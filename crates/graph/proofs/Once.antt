@@ -18,7 +18,7 @@ use Rattle.theory.proofs.numbers.Find.{any, all?, not?}
 use Rattle.theory.proofs.numbers.Pigeon.{no-injection, cons}
 use Rattle.graph.specs.Columns.{at}
 use Rattle.graph.specs.inner.Sort.{Stands}
-use Rattle.graph.specs.inner.Lists.{Once, ListedNodes}
+use Rattle.graph.specs.inner.Lists.{Once, Listed}
 use Rattle.graph.proofs.Sets.{set-stands}
 use Rattle.graph.proofs.Fills.{fill-with}
 
@@ -73,7 +73,7 @@ left_out xs k n h =
         let q : u ≡ v = sym (found none u (omega arith)).1 ∙ ap (at xs) e ∙ (found none v (omega arith)).1 in
         omega arith
 
-pub listed-none : (nodes : ℕ) (list mark : List ℕ) → ((v : ℕ) → v < nodes → at mark v ≡ 0) → ListedNodes nodes 0 list mark
+pub listed-none : (nodes : ℕ) (list mark : List ℕ) → ((v : ℕ) → v < nodes → at mark v ≡ 0) → Listed nodes 0 list mark
 listed-none nodes list mark bare = record {
   nodes-only = λ p h. absurd (let z : ⊥ = omega arith in z);
   once = λ p q l h. absurd (let z : ⊥ = omega arith in z);
@@ -81,14 +81,14 @@ listed-none nodes list mark bare = record {
   stands = λ v h z. absurd (z (bare v h));
 }
 
-module _ (nodes n : ℕ) (list mark : List ℕ) (s : ListedNodes nodes n list mark) (v : ℕ) (h : v < nodes) (bare : at mark v ≡ 0) where
+module _ (nodes n : ℕ) (list mark : List ℕ) (s : Listed nodes n list mark) (v : ℕ) (h : v < nodes) (bare : at mark v ≡ 0) where
   other : (p : ℕ) → p < n → ¬ (at list p ≡ v)
   other p l e = omega (arith, s.marked p l, ap (at mark) e)
 
   pub listed-room : n < nodes
   listed-room = once-room list n nodes v s.once s.nodes-only h other
 
-  pub listed_more : n < length list → v < length mark → ListedNodes nodes (n + 1) (set list n v) (set mark v 1)
+  pub listed_more : n < length list → v < length mark → Listed nodes (n + 1) (set list n v) (set mark v 1)
   listed_more a b = record {
     nodes-only = fill-with (λ p x. x < nodes) list n v a h s.nodes-only;
     once = λ p q l m. differ p q l (ℕ_discrete q n) m;

@@ -4,10 +4,12 @@
 --   spread-then                to some nodes and then to others
 --   queued-few, mark-room      no more are in the queue than there are nodes, and fewer where one has no mark
 --   queued-stands              a marked node stands in the queue
---   spread-new                 to one node, which gets a mark
+--   spread-seen, spread-new    to one node, which has a mark or gets one
 --   Fed                        v is the end of an edge that leaves a node at one of the places from lo up to hi of the queue
+--   ends-none, ends-turn       over the edges at places of a list: none yet, one further
 --   pins-none, pins-turn, pins-skip    over the nodes of a kind: none yet, one further
---   fed-turn                   over the nodes in the queue: one further
+--   node-ends                  the edges that leave a node stand at its places
+--   fed-none, fed-turn         over the nodes in the queue: none yet, one further
 use Prim.Native.Nat.{ℕ, ◌+◌, ◌≤◌, ◌<◌}
 use native.Mathlib.Omega.{arith}
 use native.Mathlib.Decide.{ℕ_discrete}
@@ -18,7 +20,7 @@ use lib.ListN.{length, set, length-set}
 use lib.Seq.{get_or-set_same, get_or-set_other}
 use Rattle.graph.specs.Columns.{at}
 use Rattle.graph.specs.inner.Sort.{Stands}
-use Rattle.graph.specs.inner.Layers.{Queued, EndOf, Spread, Links}
+use Rattle.graph.specs.inner.Layers.{Queued, EndOf, EndsIn, Spread, Links}
 use Rattle.graph.proofs.Once.{once-few, listed-room, listed_more}
 
 -- A loop that spreads marks: at i of lo up to hi they have spread to the nodes of `Fed i`.
@@ -59,6 +61,11 @@ module _ {nodes v held : ℕ} {queue marks : List ℕ} (l : v < nodes) (s : Queu
   pub mark-room : at marks v ≡ 0 → held < nodes
   mark-room = listed-room nodes held queue marks s.listed v l
 
+  pub spread-seen : ¬ (at marks v ≡ 0) → Spread nodes (λ u. u ≡ v) queue marks held queue marks held
+  spread-seen z =
+      let t = s.listed.stands v l z in
+      spread-still s (λ u k e. ap (at marks) (e ∙ sym t.holds) ∙ s.listed.marked t.place t.within)
+
   pub spread-new : at marks v ≡ 0 → Spread nodes (λ u. u ≡ v) queue marks held (set queue held v) (set marks v 1) (held + 1)
   spread-new z = record {
     queued = record {
@@ -87,6 +94,27 @@ module _ {nodes v held : ℕ} {queue marks : List ℕ} (l : v < nodes) (s : Queu
       only : (u : ℕ) → at (set marks v 1) u ≡ 1 → Dec (u ≡ v) → (at marks u ≡ 1) ⊎ (u ≡ v)
       only u e (yes y) = inr y
       only u e (no y) = inl (sym (get_or-set_other marks v u 1 0 y) ∙ e)
+
+-- ── Over the edges at places of a list ──────────────────────────────────────────────────────
+
+module _ {to links : List ℕ} {lo : ℕ} where
+  pub ends-none : (v : ℕ) → ¬ EndOf to links lo lo v
+  ends-none v x = omega (arith, x.above, x.below)
+
+  module _ {nodes h h' h'' k : ℕ} {q m q' m' q'' m'' : List ℕ} (low : lo ≤ k) where
+    pub ends-turn : Spread nodes (EndOf to links lo k) q m h q' m' h' → Spread nodes (λ u. u ≡ at to (at links k)) q' m' h' q'' m'' h''
+        → Spread nodes (EndOf to links lo (k + 1)) q m h q'' m'' h''
+    ends-turn = spread-then (λ v x. apart v x (ℕ_discrete x.place k)) (λ v. ⊎_elim wider last)
+      where
+        apart : (v : ℕ) (x : EndOf to links lo (k + 1) v) → Dec (x.place ≡ k) → EndOf to links lo k v ⊎ (v ≡ at to (at links k))
+        apart v x (yes e) = inr (sym x.ends ∙ ap (λ p. at to (at links p)) e)
+        apart v x (no e) = inl (record { place = x.place; above = x.above; below = omega (arith, x.below); ends = x.ends })
+
+        wider : {v : ℕ} → EndOf to links lo k v → EndOf to links lo (k + 1) v
+        wider x = record { place = x.place; above = x.above; below = omega (arith, x.below); ends = x.ends }
+
+        last : {v : ℕ} → v ≡ at to (at links k) → EndOf to links lo (k + 1) v
+        last e = record { place = k; above = low; below = omega arith; ends = sym e }
 
 -- ── Over the nodes of a kind ────────────────────────────────────────────────────────────────
 
@@ -126,6 +154,20 @@ pub record Fed (edges : ℕ) (from to queue : List ℕ) (lo hi v : ℕ) : Type 0
   pub enters : at to edge ≡ v
 
 module _ {nodes edges : ℕ} {from to links begin : List ℕ} (s : Links nodes edges from to links begin) where
+  pub node-ends : (u : ℕ) → u < nodes → EndsIn nodes to links (at begin u) (at begin (u + 1))
+  node-ends u l = record {
+    low = s.leaving.by-node.up u l;
+    rows = omega (arith, s.leaving.by-node.within u l, s.leaving.list-rows);
+    edge = λ k i. omega (arith, s.leaving.by-node.edge k (few k i), s.laid.to-rows);
+    node = λ k i. s.laid.to_in (at links k) (s.leaving.by-node.edge k (few k i));
+  }
+    where
+      few : (k : ℕ) → k < at begin (u + 1) → k < edges
+      few k i = omega (arith, s.leaving.by-node.within u l)
+
+  pub fed-none : {queue : List ℕ} {lo : ℕ} (v : ℕ) → ¬ Fed edges from to queue lo lo v
+  fed-none v x = omega (arith, x.above, x.below)
+
   -- The edges that leave the node at place i stand at its places of `links`, and no others do.
   module _ {h h' h'' lo i : ℕ} {q m q' m' q'' m'' : List ℕ} (low : lo ≤ i) (u : ℕ) (here : u ≡ at q i) (l : u < nodes) where
     pub fed-turn : Spread nodes (Fed edges from to q lo i) q m h q' m' h' → Spread nodes (EndOf to links (at begin u) (at begin (u + 1))) q' m' h' q'' m'' h''

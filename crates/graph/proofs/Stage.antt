@@ -8,7 +8,7 @@
 --   passed-gone, passed-kept      an edge that is passed is open no more, and no other is opened
 --   stage-passed        an edge that leaves a node of the order is passed: it is open no more
 --   passed-waiting      then the nodes that it does not enter still wait
---   tried-more          the first pass: one more node is tried
+--   tried-none, tried-more        the first pass: no node is tried yet, and one more
 use Prim.Native.Nat.{ℕ, ◌+◌, ◌≤◌, ◌<◌}
 use native.Mathlib.Omega.{arith}
 use native.Mathlib.Decide.{ℕ_discrete}
@@ -169,6 +169,14 @@ module _ {nodes edges : ℕ} {from to count ins first past order mark : List ℕ
 -- ── The first pass ──────────────────────────────────────────────────────────────────────────
 
 module _ (nodes : ℕ) (ins first past order mark : List ℕ) where
+  pub tried-none : FirstTried nodes ins first past order mark order mark 0 0
+  tried-none = record {
+    within = omega arith;
+    order-rows = refl;
+    mark-rows = refl;
+    tried = λ edges from to count s. (s, λ w h. absurd (let z : ⊥ = omega arith in z));
+  }
+
   pub tried-more : {order' mark' : List ℕ} {m v : ℕ} → FirstTried nodes ins first past order mark order' mark' m v → v < nodes
       → {order'' mark'' : List ℕ} {r : ℕ} → length order'' ≡ length order' → length mark'' ≡ length mark' → Tried ins first past v order' mark' m order'' mark'' r
       → FirstTried nodes ins first past order mark order'' mark'' r (v + 1)

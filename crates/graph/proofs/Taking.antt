@@ -1,12 +1,12 @@
 -- The evaluation order: its nodes are taken, one after another.
---   taking-node, taking-reads    what the edges that leave a node are read from
+--   taking-node, taking-row, taking-reads    what the edges that leave a node are read from
 --   taking-place        what `place` asks of the node that one of them enters
 --   taking-more         one of them is passed, and the node that it enters is tried
---   taken_more          so whatever graph the columns are of
+--   taken_none, taken_more      so whatever graph the columns are of: none of them, and one more
 --   going-none          no node of the order is taken yet
 --   going-reads         where the next is read from
 --   going-taking, going_more    it is taken
---   all_more            so whatever graph the columns are of
+--   all_none, all_more  so whatever graph the columns are of
 use Prim.Native.Nat.{ℕ, ◌+◌, ◌≤◌, ◌<◌}
 use native.Mathlib.Omega.{arith}
 use native.Mathlib.Decide.{ℕ_discrete}
@@ -24,6 +24,9 @@ module _ {nodes edges : ℕ} {from to count ins first outs leave past order mark
     (s : Taking nodes edges from to count ins first outs leave past order mark placed u) where
   pub taking-node : u < nodes
   taking-node = subst (λ x. x < nodes) s.taken.holds (s.stage.listed.nodes-only s.taken.place s.taken.within)
+
+  pub taking-row : u + 1 < length leave
+  taking-row = omega (arith, taking-node, s.leaving.begin-rows)
 
   module _ (k : ℕ) (h : k < at leave (u + 1)) where
     within : k < edges
@@ -57,6 +60,20 @@ module _ {nodes edges : ℕ} {from to count ins first outs leave past order mark
       }
 
 module _ (to ins first outs leave past order mark : List ℕ) (placed u : ℕ) where
+  pub taken_none : at leave u ≤ at leave (u + 1) → Taken to ins first outs leave past order mark placed u past order mark placed (at leave u)
+  taken_none h = record {
+    begun = omega arith;
+    within = h;
+    past-rows = refl;
+    order-rows = refl;
+    mark-rows = refl;
+    kept = λ e n. n;
+    gone = λ j l m. absurd (let z : ⊥ = omega arith in z);
+    same = λ p l. refl;
+    more = omega arith;
+    taking = λ nodes edges from count t. t;
+  }
+
   pub taken_more : {past' order' mark' : List ℕ} {m k : ℕ} → Taken to ins first outs leave past order mark placed u past' order' mark' m k
       → k < at leave (u + 1) → at outs k < length past' → {order'' mark'' : List ℕ} {r : ℕ} → length order'' ≡ length order' → length mark'' ≡ length mark'
       → Tried ins first (set past' (at outs k) 1) (at to (at outs k)) order' mark' m order'' mark'' r
@@ -117,6 +134,9 @@ module _ {nodes edges : ℕ} {from to count ins first outs leave past order mark
       spent p e h (no q) k j = t.kept e (s.spent p e (omega arith) k (j ∙ t.same p (omega arith)))
 
 module _ (to ins first outs leave past order mark : List ℕ) (placed : ℕ) where
+  pub all_none : AllTaken to ins first outs leave past order mark placed past order mark placed 0
+  all_none = record { past-rows = refl; order-rows = refl; mark-rows = refl; going = λ nodes edges from count g. g }
+
   pub all_more : {past' order' mark' : List ℕ} {m i : ℕ} → AllTaken to ins first outs leave past order mark placed past' order' mark' m i → i < m
       → {past'' order'' mark'' : List ℕ} {r : ℕ} → Taken to ins first outs leave past' order' mark' m (at order' i) past'' order'' mark'' r (at leave (at order' i + 1))
       → AllTaken to ins first outs leave past order mark placed past'' order'' mark'' r (i + 1)

@@ -221,7 +221,7 @@ pub fn evaluation_order<'a>(
     edges: usize,
 ) -> [u16; NODES]
     requires laid { Laid nodes edges from.now to.now × (edges ≤ length count.now) }
-    requires no_loop { (kind : List ℕ) → ¬ Loop (columnGraph nodes edges kind from.now to.now) (at count.now) }
+    requires by_index { (kind : List ℕ) → ¬ Loop (columnGraph nodes edges kind from.now to.now) (at count.now) }
     ensures { Ordered nodes edges from.now to.now count.now result }
 {
     let found = order_of(from, to, count, nodes, edges);

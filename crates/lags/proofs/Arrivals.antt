@@ -1,5 +1,6 @@
 -- Arrival times in one pass along an order under the labels.
 --   product_small       a delay times a derate
+--   latest-none, latest-kept, latest-raised      of no edge; an edge that is not empty, or not later; one that is both
 --   basis-readable      a node's edges can be read
 --   Times               arrival times under the labels: there are some, and only one for each node
 --   Timing              what holds before place i of the order: each node there has its arrival time
@@ -15,6 +16,7 @@ use mathlib.Core.List.{List}
 use mathlib.Core.Logic.{◌⊎◌, inl, inr, ⊎_elim}
 use lib.ListN.{length, set, length-set}
 use lib.Seq.{get_or-set_same, get_or-set_other}
+use borrow.Author.Count.{below_more}
 use Rattle.theory.specs.Graph.{Graph, Wired}
 use Rattle.theory.specs.Walk.{Walk, one, more, delays}
 use Rattle.theory.specs.inner.Labels.{Empty, Chain}
@@ -26,10 +28,30 @@ use Rattle.netlist.specs.declared.Netlist.{Netlist}
 use Rattle.netlist.specs.Net.{graph_of, delayOf}
 use Rattle.netlist.proofs.Run.{fit-rows, fit-wired}
 use Rattle.lags.specs.inner.Wires.{Basis}
-use Rattle.lags.specs.inner.Rounds.{EmptyUnder, LabelOrder, InEdgesReadable, LatestTime, Arrived}
+use Rattle.lags.specs.inner.Rounds.{EmptyUnder, LabelOrder, Readable, LatestTime, Arrived}
 
 pub product_small : (a b : ℕ) → a < 256 → b < 256 → a * b ≤ 65025
 product_small a b h k = mul-le-mul {n₁ = a} {m₁ = b} {n₂ = 255} {m₂ = 255} (omega arith) (omega arith)
+
+-- ── The edges of one node ───────────────────────────────────────────────────────────────────
+
+module _ (ins from count lab time : List ℕ) (here lo : ℕ) where
+  pub latest-none : LatestTime ins from count lab time here lo lo 0
+  latest-none = record { above = λ k a b. absurd (let z : ⊥ = omega arith in z); cause = inl refl }
+
+  module _ (k best : ℕ) (h : lo ≤ k) (t : LatestTime ins from count lab time here lo k best) where
+    pub latest-kept : (at lab (at from (at ins k)) ≡ at count (at ins k) + here → at time (at from (at ins k)) ≤ best) → LatestTime ins from count lab time here lo (k + 1) best
+    latest-kept q = record {
+      above = below_more _ _ t.above (λ _. q);
+      cause = ⊎_elim inl (λ c. inr (c.0, c.1, omega (arith, c.2), c.3, c.4)) t.cause;
+    }
+
+    pub latest-raised : at lab (at from (at ins k)) ≡ at count (at ins k) + here → best < at time (at from (at ins k))
+        → LatestTime ins from count lab time here lo (k + 1) (at time (at from (at ins k)))
+    latest-raised e q = record {
+      above = below_more _ _ (λ j m l z. omega (arith, t.above j m l z)) (λ _ _. omega arith);
+      cause = inr (k, h, omega arith, e, refl);
+    }
 
 -- ── What arrival times are ──────────────────────────────────────────────────────────────────
 
@@ -74,7 +96,7 @@ module _ {net : Netlist} {P : ℕ} {ins first delay : List ℕ} (b : Basis net P
   wired = fit-wired net b.sure.fit
 
   pub basis-readable : (lab time : List ℕ) → net.nodes ≤ length lab → net.nodes ≤ length time → 1024 ≤ length net.from → 1024 ≤ length net.count
-      → (v : ℕ) → v < net.nodes → at lab v < 32768 → InEdgesReadable ins net.from net.count lab time (at lab v) (at first v) (at first (v + 1))
+      → (v : ℕ) → v < net.nodes → at lab v < 32768 → Readable ins net.from net.count lab time (at lab v) (at first v) (at first (v + 1))
   basis-readable lab time rl rt rf rc v h s = record {
     up = b.wires.by-node.up v h;
     rows = omega (arith, b.wires.by-node.within v h, b.wires.list-rows);

@@ -1,7 +1,7 @@
 -- Orders under labels: the one to start from, and how a round keeps it.
 --   held-loop           no loop is empty under the labels
 --   held-ordered        an evaluation order, where the edges that are empty under the labels count as those without a register
---   parts-late, parts-rest      the next is late, or not
+--   parts_none, parts-late, parts-rest      none yet; the next is late, or not
 --   order-kept          after a round, the late nodes first and then the others
 use Prim.Native.Nat.{ℕ, ◌+◌, ◌-◌, ◌≤◌, ◌<◌}
 use native.Mathlib.Omega.{arith}
@@ -16,7 +16,7 @@ use Rattle.graph.specs.Columns.{at, columnGraph}
 use Rattle.graph.specs.inner.Sort.{Stands, Ordered}
 use Rattle.graph.specs.inner.Lists.{Filtered}
 use Rattle.graph.proofs.Laws.{loop-kinds}
-use Rattle.graph.proofs.Fills.{filtered-hit, filtered-miss}
+use Rattle.graph.proofs.Fills.{filtered-none, filtered-hit, filtered-miss}
 use Rattle.netlist.specs.declared.Netlist.{Netlist}
 use Rattle.netlist.specs.Net.{graph_of, regs_of}
 use Rattle.netlist.proofs.Run.{fit-wired}
@@ -49,6 +49,9 @@ module _ (net : Netlist) (lab held : List ℕ) (q : Held net lab held) where
 -- ── Parting ─────────────────────────────────────────────────────────────────────────────────
 
 module _ (order time : List ℕ) (P : ℕ) where
+  pub parts_none : (late rest : List ℕ) → Parts order time P 0 late rest 0 0
+  parts_none late rest = record { late-part = filtered-none _ order late; rest_part = filtered-none _ order rest; all = omega arith }
+
   module _ (i : ℕ) (late rest : List ℕ) (a b : ℕ) (w : Parts order time P i late rest a b) where
     pub parts-late : P < at time (at order i) → a < length late → Parts order time P (i + 1) (set late a (at order i)) rest (a + 1) b
     parts-late h room = record {

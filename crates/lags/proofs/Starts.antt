@@ -5,7 +5,7 @@
 --   near-pin            every gate is within 16,384 registers of a pin
 --   far-start           the distances to start from
 --   edge-reads          the edge's numbers are in their ranges
---   state-keep, state-shorten           an edge that offers nothing; one that offers a shorter way
+--   state-keep, state-shorten, state-end      an edge that offers nothing; one that offers a shorter way; after the last edge
 --   measured-distance, begun_first            the distances and the labels in the theory's words
 --   begun-low           the labels are small
 use Prim.Native.Nat.{ℕ, ◌+◌, ◌≤◌, ◌<◌}
@@ -29,7 +29,7 @@ use Rattle.netlist.proofs.Run.{fit-rows, fit-wired}
 use Rattle.netlist.proofs.Lowest.{count_low}
 use Rattle.lags.specs.inner.Lags.{Sure}
 use Rattle.lags.specs.inner.Rounds.{Low}
-use Rattle.lags.specs.inner.Starts.{start_of, distanceSum, Far, NoShorter, Measured, FirstLabels}
+use Rattle.lags.specs.inner.Starts.{start_of, distanceSum, Far, NoShorter, Shortened, Measured, FirstLabels}
 
 -- r is 1 where a distance has changed.
 pub record State (net : Netlist) (before far : List ℕ) (r e : ℕ) : Type 0 where
@@ -167,6 +167,9 @@ module _ (net : Netlist) (s : Sure net) where
             (subst (λ n. FromPin (graph_of net) (regs_of net).count v n) (sym same)
             (from-edge e (at far (at net.from e)) h (t.ways.reached (at net.from e) ((fit-wired net s.fit).src-in e h))))
         reached x k (no z) = subst (λ n. FromPin (graph_of net) (regs_of net).count x n) (sym (other x z)) (t.ways.reached x k)
+
+  pub state-end : (before far : List ℕ) (r e : ℕ) → net.edges ≤ e → State net before far r e → Shortened net before far r
+  state-end before far r e h t = record { far = t.ways; fallen = t.fallen; passed = λ z k l. t.passed z k (omega arith) }
 
   -- ── In the theory's words ───────────────────────────────────────────────────────────────────
 

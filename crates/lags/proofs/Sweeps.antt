@@ -1,17 +1,18 @@
--- The climb: what is asked of a node, what it takes, what a sweep leaves.
+-- The climb: what an edge asks for, what a node takes, what a sweep leaves.
 --   floor-pin, floor-gate, floor-low         the mark that a node has by its kind alone
+--   asked-kept, asked-raised                 an edge that asks for no more; one that asks for more
 --   climb-askable       a node's edges can be asked
 --   climb-low           what is asked of a node is small
 --   climb-next          what a node takes is below every legal retiming that meets the period, where the marks are
 --   Sweeping            what holds in a sweep before place i of the order
 --   sweep-kept, sweep-moved, sweep-late, sweep-still      a node that has its mark; one that takes another; a pin above its label; after the last node
-use Prim.Native.Nat.{ℕ, suc, ◌+◌, ◌*◌, min, ◌≤◌, ◌<◌}
+use Prim.Native.Nat.{ℕ, suc, ◌+◌, ◌-◌, ◌*◌, min, ◌≤◌, ◌<◌}
 use native.Mathlib.Omega.{arith}
 use native.Mathlib.Decide.{ℕ_discrete, dec_le}
 use mathlib.Core.Path.{◌≡◌, sym, subst, ◌∙◌}
 use mathlib.Core.Bool.{Bool, true, false}
 use mathlib.Core.List.{List}
-use mathlib.Core.Logic.{⊎_elim}
+use mathlib.Core.Logic.{inl, inr, ⊎_elim}
 use lib.ListN.{length, set, length-set}
 use lib.Seq.{get_or-set_same, get_or-set_other}
 use borrow.Author.Count.{below_more}
@@ -44,6 +45,22 @@ floor-low kind = go (dec_le kind 1)
     go : Dec (kind ≤ 1) → floorOf kind ≤ 17179869184
     go (yes p) = omega (arith, floor-pin kind p)
     go (no p) = omega (arith, floor-gate kind (let z : 1 < kind = omega arith in z))
+
+module _ (ins from count mark : List ℕ) (floor lo k best : ℕ) (h : lo ≤ k) (a : AskedMark ins from count mark floor lo k best) where
+  pub asked-kept : at mark (at from (at ins k)) ≤ best + at count (at ins k) * 1048576 → AskedMark ins from count mark floor lo (k + 1) best
+  asked-kept q = record {
+    least = a.least;
+    above = below_more _ _ a.above (λ _. q);
+    cause = ⊎_elim inl (λ c. inr (c.0, c.1, omega (arith, c.2), c.3)) a.cause;
+  }
+
+  pub asked-raised : best + at count (at ins k) * 1048576 < at mark (at from (at ins k))
+      → AskedMark ins from count mark floor lo (k + 1) (at mark (at from (at ins k)) - at count (at ins k) * 1048576)
+  asked-raised q = record {
+    least = omega (arith, a.least);
+    above = below_more _ _ (λ j m l. omega (arith, a.above j m l)) (λ _. omega arith);
+    cause = inr (k, h, omega arith, omega arith);
+  }
 
 -- ── A climb ─────────────────────────────────────────────────────────────────────────────────
 

@@ -3,7 +3,7 @@
 ghost use Rattle.std.specs.Prelude.{◌≡◌, suc, ◌+◌, min, ◌≤◌, ◌<◌, length};
 ghost use Rattle.netlist.specs.Net.{working};
 ghost use Rattle.lags.specs.inner.Wires.{Delayed, Basis};
-ghost use Rattle.lags.specs.inner.Rounds.{Low, LabelOrder, InEdgesReadable, LatestTime, Arrived};
+ghost use Rattle.lags.specs.inner.Rounds.{Low, LabelOrder, Readable, LatestTime, Arrived};
 
 use graph::NODES;
 use netlist::Netlist;
@@ -50,7 +50,7 @@ fn latest<'a>(
     here: u32,
     time: &[u32],
 ) -> u32
-    requires { InEdgesReadable ins.now from.now count.now lab.now time.now here lo hi }
+    requires { Readable ins.now from.now count.now lab.now time.now here lo hi }
     ensures { LatestTime ins.now from.now count.now lab.now time.now here lo hi result }
 {
     let mut best = 0;

@@ -1,16 +1,18 @@
 -- Start values as a word: over the count, whatever it is.
 --   word_fits           a word of so many bits has no bit at or above them
 --   word-bit            bit k of the word is start value k
---   put-short           a word of so many bits with one more: how large it is
+--   put-short, put-fits    a word of so many bits with one more: how large it is; it fits a machine word
 --   words-short         the words of a choice have no bit past the chosen values
 use Prim.Native.Nat.{ℕ, zero, suc, ◌+◌, ◌*◌, ◌^◌, ◌-◌, ◌<◌, ◌≤◌}
 use native.Mathlib.Omega.{arith}
+use native.Mathlib.Nat.{lt_of_lt_of_le}
 use native.Mathlib.Decide.{ℕ_discrete}
 use native.Mathlib.Numerals.{add-one}
 use mathlib.Core.Path.{◌≡◌, sym, subst, ap, ◌∙◌}
 use mathlib.Core.List.{List}
 use lib.IntN.{ℤ}
 use lib.ListN.{length}
+use lib.Pow.{pow_mono}
 use Rattle.theory.specs.Gate.{gate}
 use Rattle.theory.specs.Move.{sum}
 use Rattle.theory.proofs.moves.Best.{choice-bit}
@@ -43,6 +45,9 @@ module _ (start : ℕ → ℕ) where
 module _ (word t x : ℕ) (l : word < 2 ^ t) (b : x ≤ 1) where
   pub put-short : word + x * 2 ^ t < 2 ^ (t + 1)
   put-short = rw (add-one t) (bit-fits word x t l b)
+
+  pub put-fits : t < 32 → word + x * 2 ^ t < 2 ^ 32
+  put-fits h = lt_of_lt_of_le put-short (pow_mono {j = 32} (omega arith))
 
 pub words-short : (net : Netlist) (r : ℕ → ℤ) (c : ℕ) (words : List ℕ) → net.edges ≤ length words → EdgeWords net r c words → ShortWords net r words
 words-short net r c words l w = record {

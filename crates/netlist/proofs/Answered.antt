@@ -1,7 +1,7 @@
 -- From what a stage answered to what reading and writing say.
 --   says-refused                 a refusal says its number
---   sought-past                  a search for a node that breaks a rule, where it did not refuse
---   lined-net                    all lines read: a netlist whose lines are right
+--   sought-stop, sought-past     a search for a node that breaks a rule, by its answer
+--   lined-stop, lined-net        all lines read: a fault, or a netlist whose lines are right
 --   kept-refused, kept-done      what the record holds
 --   stands, goes_on              a refusal stands, and nothing is written; else the call goes on
 --   writes-stop, writes_short, writes-done    the three ends of writing
@@ -19,7 +19,7 @@ use Rattle.netlist.specs.declared.Answer.TheVariants.{Done, Refused}
 use Rattle.netlist.specs.Answer.{Said, value, refused, says, whole, atNode, holds}
 use Rattle.netlist.specs.Order.{here, past, GivenAt, Stops}
 use Rattle.netlist.specs.Net.{emptyNet}
-use Rattle.netlist.specs.Read.{lines, lines_of, Lowest, kept, Reads}
+use Rattle.netlist.specs.Read.{lines, lines_of, Lowest, kept, Reads, faulty}
 use Rattle.netlist.specs.Write.{text_of, Writes}
 use Rattle.netlist.specs.inner.Stages.{Lined, Sought}
 use Rattle.netlist.specs.Theorems.{Fit}
@@ -36,13 +36,21 @@ says-refused (Refused q (Edge m)) e = (3, m, cc)
 
 -- ── The rules of the whole ──────────────────────────────────────────────────────────────────
 
--- A search that did not refuse has found none.
+-- A search that refused has found a node, and one that did not has found none.
 module _ {Rule : ℕ → Type 0} {n r : ℕ} (a : Answer) where
+  pub sought-stop : {q : ℕ} {p : Place} → a ≡ Refused q p → Sought Rule n r (says a) → GivenAt (Lowest Rule n) (atNode r) (says a)
+  sought-stop e (here g) = g
+  sought-stop e (past none z) = let y = (says-refused a e).2 in clash (cc)
+
   pub sought-past : {m : ℕ} → a ≡ Done m → Sought Rule n r (says a) → (x : Said) → ¬ GivenAt (Lowest Rule n) (atNode r) x
   sought-past e (here (v, l, z)) = let y = sym (ap says e) ∙ z in clash (cc)
   sought-past e (past none z) = none
 
 -- ── Reading ─────────────────────────────────────────────────────────────────────────────────
+
+pub lined-stop : (t : List ℕ) (a : Answer) (net : Netlist) {q : ℕ} {p : Place} → a ≡ Refused q p → Lined t a net → Reads t (says a) net
+lined-stop t (Done n) net e g = clash (cc)
+lined-stop t (Refused q p) net e g = faulty g.0 g.1
 
 pub lined-net : (t : List ℕ) (a : Answer) (net : Netlist) {n : ℕ} → a ≡ Done n → Lined t a net → lines_of t ≡ lines net
 lined-net t (Done n) net e g = g

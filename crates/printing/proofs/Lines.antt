@@ -1,18 +1,24 @@
 -- Lags as numbers of two bytes, and their lines.
---   small-fits          a lag of two bytes is a 32-bit number
+--   bias-sum            a lag and 32,768
+--   small-fits          such a lag is a 32-bit number
 --   lag-length          a line has 11 bytes
-use Prim.Native.Nat.{ℕ, ◌≤◌, ◌<◌}
+use Prim.Native.Nat.{ℕ, suc, ◌+◌, ◌-◌, ◌≤◌, ◌<◌}
 use native.Mathlib.Omega.{arith}
-use mathlib.Core.Path.{◌≡◌}
+use mathlib.Core.Path.{◌≡◌, ap}
 use mathlib.Core.List.{List}
+use borrow.Author.Tests.{le-ltb}
 use mir.Syntax.{w32}
 use mir.Val.{SFits}
-use lib.IntN.{ℤ, pos, negsuc}
+use lib.IntN.{ℤ, pos, negsuc, ◌+ℤ◌}
 use lib.ListN.{length}
 use Rattle.theory.specs.Lag.{up, down}
 use Rattle.frame.specs.Frame.{bytes_of}
 use Rattle.frame.proofs.Laws.{length-line}
 use Rattle.printing.specs.Listed.{lagLine}
+
+pub bias-sum : (z : ℤ) → down z ≤ 32768 → z +ℤ pos 32768 ≡ pos (up z + 32768 - down z)
+bias-sum (pos n) k = ap pos (omega arith)
+bias-sum (negsuc n) k = rw (le-ltb 32768 (suc n) k) (ap pos (omega arith))
 
 pub small-fits : (z : ℤ) → (up z < 32768) × (down z ≤ 32768) → SFits w32 z
 small-fits (pos n) h = record { sfits = omega (arith, h.0) }

@@ -1,5 +1,5 @@
 -- The search for the smallest period, by halving.
---   tight-found         what is promised where a period is met
+--   tight-none, tight-found    what is promised in the two cases
 --   Halving             no period up to low is met, and the labels are those of the least retiming at high
 --   halving-start       it begins where 65,535 is met
 --   halving-met, halving-missed    a period between them takes the place of one
@@ -28,6 +28,9 @@ pub record Halving (net : Netlist) (low high : ℕ) (lab : List ℕ) : Type 0 wh
   pub met : LeastIn net high (lagsOf lab)
   pub small : (v : ℕ) → v < net.nodes → at lab v < 32768
   pub rows : length lab ≡ 512
+
+pub tight-none : {net : Netlist} {p : ℕ} {lab : List ℕ} → NoneMeetsIn net 65535 → Tightens net false p lab
+tight-none n = record { tightest = λ z. clash (cc); none = λ _. n }
 
 pub tight-found : {net : Netlist} {p : ℕ} {lab : List ℕ} → Tightest net p lab → Tightens net true p lab
 tight-found t = record { tightest = λ _. t; none = λ z. clash (cc) }

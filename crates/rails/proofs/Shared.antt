@@ -19,17 +19,17 @@ use Rattle.theory.specs.Clock.{Regs}
 use Rattle.theory.proofs.numbers.Sums.{sum_same}
 use Rattle.netlist.proofs.Fits.{clash, both}
 use Rattle.rails.specs.Rails.{outward, agreed, shares, sharedBelow, paidOn}
-use Rattle.rails.specs.inner.Shared.{AgreesFrom, AgreesUpTo, Shared}
+use Rattle.rails.specs.inner.Shared.{Far, Further, Shared}
 use Rattle.rails.proofs.Agreed.{agreed-each, agreed-by}
 use Rattle.rails.proofs.Sums.{sum-ones, sum-all, sum-past}
 
 -- ── Further ─────────────────────────────────────────────────────────────────────────────────
 
 module _ {f : ℕ → ℕ} {w : ℕ} {g : ℕ → ℕ} {x m : ℕ} where
-  pub far-none : m ≤ w → AgreesFrom f w g x m m
+  pub far-none : m ≤ w → Far f w g x m m
   far-none h = record { low = omega arith; within = h; agree = λ d a b. absurd (let z : ⊥ = omega arith in z) }
 
-  pub far-more : {n : ℕ} → AgreesFrom f w g x m n → n < w → n < x → agreed f g (n + 1) ≡ true → AgreesFrom f w g x m (n + 1)
+  pub far-more : {n : ℕ} → Far f w g x m n → n < w → n < x → agreed f g (n + 1) ≡ true → Far f w g x m (n + 1)
   far-more {n} s h k e = record {
     low = omega (arith, s.low);
     within = omega arith;
@@ -40,7 +40,7 @@ module _ {f : ℕ → ℕ} {w : ℕ} {g : ℕ → ℕ} {x m : ℕ} where
       go d a b (yes z) = (omega arith, ap (agreed f g) (let y : suc d ≡ n + 1 = omega arith in y) ∙ e)
       go d a b (no z) = s.agree d a (omega arith)
 
-  pub far-ends : {n : ℕ} → AgreesFrom f w g x m n → (n < w → n < x → agreed f g (n + 1) ≡ false) → AgreesUpTo f w g x m n
+  pub far-ends : {n : ℕ} → Far f w g x m n → (n < w → n < x → agreed f g (n + 1) ≡ false) → Further f w g x m n
   far-ends {n} s e = record { far = s; ends = λ h k. rw (sym (add-one n)) (e h k) }
 
 -- ── One register ────────────────────────────────────────────────────────────────────────────
@@ -91,7 +91,7 @@ module _ (G : Graph) (R : Regs) (e : ℕ) where
 
     -- What agrees out to some distance agrees nearer, so what edge n shares are nearest registers too, and only those past m need a look.
     -- By cases: shared before, shared with n now, or neither, as already register m' is not.
-    pub shared-further : {m' : ℕ} → G.src n ≡ G.src e → AgreesUpTo (outward R e) (R.count e) (outward R n) (R.count n) m m' → Shared G R e (n + 1) m'
+    pub shared-further : {m' : ℕ} → G.src n ≡ G.src e → Further (outward R e) (R.count e) (outward R n) (R.count n) m m' → Shared G R e (n + 1) m'
     unfolding sharedBelow
     shared-further {m'} p f = rw (add-one n) (record { within = f.far.within; each = λ d h. go d h (dec_lt d m) (dec_lt d m') })
       where

@@ -9,7 +9,7 @@ ghost use Rattle.netlist.specs.Net.{graph_of, regs_of};
 ghost use Rattle.netlist.specs.Write.{joined};
 ghost use Rattle.netlist.specs.Theorems.{Fit};
 ghost use Rattle.rails.specs.Rails.{paidOn, Rails};
-ghost use Rattle.rails.specs.inner.Shared.{AgreesUpTo, Counted};
+ghost use Rattle.rails.specs.inner.Shared.{Further, Counted};
 
 use graph::NODES;
 use netlist::{Answer, Netlist, Place};
@@ -25,7 +25,7 @@ fn nearest(word: u32, w: u32, n: u32) -> u32
 // Two edges from one node, a word of w values and one of x: how far out the first shares, where it is known to share the nearest m.
 fn further(a: u32, w: u32, b: u32, x: u32, m: u32) -> u32
     requires { (m ≤ w) × (w ≤ 32) × (x ≤ 32) × (a < 2 ^ w) × (b < 2 ^ x) }
-    ensures { AgreesUpTo (digit w a) w (digit x b) x m result }
+    ensures { Further (digit w a) w (digit x b) x m result }
 {
     let mut n = m;
     while n < w {

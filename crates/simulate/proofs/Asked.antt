@@ -1,20 +1,33 @@
 -- The tests of rule 13, a turn at a time.
 --   bits-more, bits-stop, bits-end    a byte that is a bit; one that is not; no byte left
 --   fits_more, fits-stop    a word that fits; one that does not
+--   first-fails, second-fails, third-tells    three tests in turn
 use Prim.Native.Nat.{ℕ, zero, suc, ◌+◌, ◌^◌, ◌<◌, ◌≤◌}
 use native.Mathlib.Omega.{arith}
 use native.Mathlib.Numerals.{add-one}
 use native.Mathlib.Decide.{ℕ_discrete}
 use mathlib.Core.Path.{◌≡◌, refl, sym, ap, ◌∙◌}
 use mathlib.Core.Bool.{Bool, true, false, cond}
-use mathlib.Core.List.{List}
+use mathlib.Core.List.{List, [], ◌∷◌}
 use lib.Dec.{ltb}
 use lib.ListN.{length, get_or, drop, drop_of_length-le}
 use lib.Seq.{drop-cons}
 use borrow.Author.Tests.{le-leb, lt-leb}
 use Rattle.netlist.specs.declared.Netlist.{Netlist}
 use Rattle.netlist.specs.Net.{regs_of}
+use Rattle.rules.specs.Rules.{every}
 use Rattle.simulate.specs.Step.{onlyBits, wordsFit}
+
+module _ (a b c : Bool) where
+  pub first-fails : a ≡ false → false ≡ every (a ∷ b ∷ c ∷ [])
+  first-fails h = rw h
+
+  pub second-fails : a ≡ true → b ≡ false → false ≡ every (a ∷ b ∷ c ∷ [])
+  second-fails h k = rw (h, k)
+
+pub third-tells : (a b c : Bool) → a ≡ true → b ≡ true → c ≡ every (a ∷ b ∷ c ∷ [])
+third-tells a b true h k = rw (h, k)
+third-tells a b false h k = rw (h, k)
 
 module _ (l : List ℕ) (i : ℕ) where
   pub bits-more : i < length l → get_or l i 0 ≤ 1 → onlyBits (drop i l) ≡ onlyBits (drop (i + 1) l)

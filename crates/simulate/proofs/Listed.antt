@@ -18,35 +18,35 @@ use Rattle.graph.specs.Columns.{at}
 use Rattle.graph.specs.inner.Sort.{group}
 use Rattle.graph.proofs.Sorted.{group-hit, group-miss, group-holds, group-item}
 use Rattle.graph.proofs.Placing.{group-few}
-use Rattle.simulate.specs.inner.Lists.{registerMarks, GroupListed}
-use Rattle.simulate.specs.inner.Signals.{NumbersBelow}
+use Rattle.simulate.specs.inner.Lists.{marked, Listed}
+use Rattle.simulate.specs.inner.Signals.{Within}
 
 -- ── Edges with a register ───────────────────────────────────────────────────────────────────
 
-mark-at : (count : List ℕ) (e : ℕ) → at (registerMarks count) e ≡ min 1 (at count e)
+mark-at : (count : List ℕ) (e : ℕ) → at (marked count) e ≡ min 1 (at count e)
 mark-at [] e = refl
 mark-at (w ∷ count) zero = refl
 mark-at (w ∷ count) (suc e) = mark-at count e
 
 module _ (count : List ℕ) (e : ℕ) where
-  pub mark-some : ¬ (at count e ≡ 0) → at (registerMarks count) e ≡ 1
+  pub mark-some : ¬ (at count e ≡ 0) → at (marked count) e ≡ 1
   mark-some z = mark-at count e ∙ omega arith
 
-  pub mark-has : at (registerMarks count) e ≡ 1 → 0 < at count e
+  pub mark-has : at (marked count) e ≡ 1 → 0 < at count e
   mark-has q = omega (arith, mark-at count e)
 
 module _ {key : List ℕ} {k : ℕ} where
   -- ── The loops ─────────────────────────────────────────────────────────────────────────────
 
-  pub listed-none : (list : List ℕ) → GroupListed key k 0 list 0
+  pub listed-none : (list : List ℕ) → Listed key k 0 list 0
   unfolding gather
   listed-none list = record { many = refl; room = omega arith; front = refl }
 
-  module _ {n : ℕ} {list : List ℕ} {r : ℕ} (s : GroupListed key k n list r) where
+  module _ {n : ℕ} {list : List ℕ} {r : ℕ} (s : Listed key k n list r) where
     pub listed-few : r ≤ n
     listed-few = omega (arith, s.many, group-few key k n)
 
-    pub listed-hit : at key n ≡ k → r < length list → GroupListed key k (n + 1) (set list r n) (r + 1)
+    pub listed-hit : at key n ≡ k → r < length list → Listed key k (n + 1) (set list r n) (r + 1)
     listed-hit q l =
         rw (add-one n, add-one r) (record {
           many = ap suc s.many ∙ sym (ap length (group-hit key k n q) ∙ simp length-append (omega arith));
@@ -54,7 +54,7 @@ module _ {key : List ℕ} {k : ℕ} where
           front = take-suc-set list r n l ∙ ap (λ xs. xs ++ (n ∷ [])) s.front ∙ sym (group-hit key k n q);
         })
 
-    pub listed-miss : ¬ (at key n ≡ k) → GroupListed key k (n + 1) list r
+    pub listed-miss : ¬ (at key n ≡ k) → Listed key k (n + 1) list r
     listed-miss q =
         rw (add-one n) (record {
           many = s.many ∙ sym (ap length (group-miss key k n q));
@@ -81,5 +81,5 @@ module _ {key : List ℕ} {k : ℕ} where
         let p : t.place ≡ length (group key k u) = sym (listed-item t.place l).2 ∙ ap (λ x. length (group key k x)) here in
         (subst (λ i. i < r) p l, subst (λ i. at list i ≡ u) p here)
 
-    pub listed-within : (size : ℕ) → n ≤ size → NumbersBelow list r size
+    pub listed-within : (size : ℕ) → n ≤ size → Within list r size
     listed-within size h = record { rows = s.room; below = λ i l. omega (arith, (listed-item i l).0) }

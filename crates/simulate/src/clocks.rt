@@ -4,13 +4,13 @@
 ghost use Rattle.std.specs.Prelude.{◌≡◌, ◌+◌, ◌^◌, ◌<◌, ◌≤◌, length};
 ghost use Rattle.simulate.specs.Clock.{shifted};
 ghost use Rattle.gates.specs.inner.Gates.{AllBits};
-ghost use Rattle.simulate.specs.inner.Signals.{NumbersBelow, Movable, withInputs, withRegisters, withOutputs, withShifts};
+ghost use Rattle.simulate.specs.inner.Signals.{Within, Movable, withInputs, withRegisters, withOutputs, withShifts};
 
 use graph::NODES;
 
 // The vector that begins at `at0`, one byte for each of the first n nodes of the list.
 fn put_inputs(inputs: &[u16], n: usize, vectors: &[u8], at0: usize, sig: &mut [u8])
-    requires { NumbersBelow inputs.now n (length sig.old) × (at0 + n ≤ length vectors.now) }
+    requires { Within inputs.now n (length sig.old) × (at0 + n ≤ length vectors.now) }
     ensures { sig.new ≡ withInputs inputs.now n vectors.now at0 sig.old }
 {
     let mut i = 0;
@@ -23,7 +23,7 @@ fn put_inputs(inputs: &[u16], n: usize, vectors: &[u8], at0: usize, sig: &mut [u
 
 // What each of the first n edges of the list shows from its register: bit 0 of its word.
 fn show_registers(registers: &[u16], n: usize, words: &[u32], sig: &mut [u8])
-    requires { NumbersBelow registers.now n (length words.now) × (512 + length words.now ≤ length sig.old) }
+    requires { Within registers.now n (length words.now) × (512 + length words.now ≤ length sig.old) }
     ensures { sig.new ≡ withRegisters registers.now n words.now sig.old }
 {
     let mut i = 0;
@@ -45,8 +45,8 @@ pub fn enter<'a>(
     words: &[u32],
     sig: &mut [u8],
 )
-    requires within { NumbersBelow inputs.now n (length sig.old) × (at0 + n ≤ length vectors.now) }
-    requires within_2 { NumbersBelow registers.now m (length words.now) × (512 + length words.now ≤ length sig.old) }
+    requires within { Within inputs.now n (length sig.old) × (at0 + n ≤ length vectors.now) }
+    requires within_2 { Within registers.now m (length words.now) × (512 + length words.now ≤ length sig.old) }
     ensures { sig.new ≡ withRegisters registers.now m words.now (withInputs inputs.now n vectors.now at0 sig.old) }
 {
     put_inputs(inputs, n, vectors, at0, sig);
@@ -85,7 +85,7 @@ pub fn shift<'a>(
 
 // The signals of the first n nodes of the list, one byte each, at `at0`.
 pub fn put_outputs(outputs: &[u16], n: usize, sig: &[u8], out: &mut [u8], at0: usize)
-    requires { NumbersBelow outputs.now n (length sig.now) × (at0 + n ≤ length out.old) }
+    requires { Within outputs.now n (length sig.now) × (at0 + n ≤ length out.old) }
     ensures { out.new ≡ withOutputs outputs.now n sig.now at0 out.old }
 {
     let mut i = 0;

@@ -1,7 +1,7 @@
 // What a clock touches, listed once per run.
 // Required: a netlist that passed the rules, which `run` and `step` check first.
 ghost use Rattle.std.specs.Prelude.{◌≤◌, length};
-ghost use Rattle.simulate.specs.inner.Lists.{registerMarks, GroupListed, Touched};
+ghost use Rattle.simulate.specs.inner.Lists.{marked, Listed, Touched};
 
 use graph::{EDGES, NODES};
 use netlist::Netlist;
@@ -20,7 +20,7 @@ pub struct Lists {
 // The nodes of the gate kind k, in node order. How many.
 fn list_kind(kind: &[u8], nodes: usize, k: u8, list: &mut [u16]) -> usize
     requires { (nodes ≤ 512) × (nodes ≤ length kind.now) × (nodes ≤ length list.old) }
-    ensures { GroupListed kind.now k nodes list.new result }
+    ensures { Listed kind.now k nodes list.new result }
 {
     let mut n = 0;
     let mut v = 0;
@@ -37,7 +37,7 @@ fn list_kind(kind: &[u8], nodes: usize, k: u8, list: &mut [u16]) -> usize
 // The edges with a register, in their order. How many.
 fn list_registers(count: &[u8], edges: usize, list: &mut [u16]) -> usize
     requires { (edges ≤ 1024) × (edges ≤ length count.now) × (edges ≤ length list.old) }
-    ensures { GroupListed (registerMarks count.now) 1 edges list.new result }
+    ensures { Listed (marked count.now) 1 edges list.new result }
 {
     let mut n = 0;
     let mut e = 0;

@@ -1,11 +1,12 @@
 -- Level by level: the stack of cells that wait, and where the levels begin.
---   waiting-more, waiting-less   the stack: a push, a pop
---   begun_more          where the levels begin
+--   waiting-one, waiting-more, waiting-less   the stack: its first cell, a push, a pop
+--   begun-none, begun_kept, begun_more        where the levels begin
+--   level-turn          a level is done
 --   ranked              all cells have numbers
 use Prim.Native.Nat.{ℕ, suc, ◌+◌, ◌-◌, ◌≤◌, ◌<◌}
 use native.Mathlib.Omega.{arith}
 use native.Mathlib.Decide.{ℕ_discrete, dec_lt}
-use mathlib.Core.Path.{◌≡◌, ap, ◌∙◌}
+use mathlib.Core.Path.{◌≡◌, sym, subst, ap, ◌∙◌}
 use mathlib.Core.Logic.{⊎_elim}
 use mathlib.Core.List.{List}
 use lib.ListN.{length, set}
@@ -13,13 +14,27 @@ use lib.Seq.{get_or-set_same, get_or-set_other}
 use Rattle.graph.specs.Columns.{at}
 use Rattle.graph.proofs.Fills.{fill-with}
 use Rattle.solve.specs.inner.Parts.{Spans}
-use Rattle.solve.specs.inner.Numbers.{Layers, Numbered, Stacked, LevelsBegun, Ranked}
+use Rattle.solve.specs.inner.Numbers.{Layers, Numbered, Extended, LevelNumbered, Waiting, LevelsBegun, Ranked}
 use Rattle.solve.proofs.Spanning.{reach-bit}
-use Rattle.solve.proofs.Numbering.{numbered-all}
+use Rattle.solve.proofs.Numbering.{numbered-all, numbered-level}
 
 -- ── The stack ───────────────────────────────────────────────────────────────────────────────
 
-module _ {m h i : ℕ} {span id stack : List ℕ} (s : Stacked m h i span id stack) (some : 0 < h) where
+pub waiting-one : {m i : ℕ} {span id : List ℕ} (stack : List ℕ) → 0 < length stack → at span i ≡ m → at id i ≡ 12288 → Waiting m 1 i span id (set stack 0 i)
+waiting-one {m} {i} {span} {id} stack rows own free = record {
+  bottom = here;
+  level = λ j h. ap (at span) (first j h) ∙ own;
+  waits = λ j h. ap (at id) (first j h) ∙ free;
+  falls = λ a b l h. let z : a ≡ b = omega arith in omega (arith, ap (at (set stack 0 i)) z);
+}
+  where
+    here : at (set stack 0 i) 0 ≡ i
+    here = get_or-set_same stack 0 i 0 rows
+
+    first : (j : ℕ) → j < 1 → at (set stack 0 i) j ≡ i
+    first j h = let z : j ≡ 0 = omega arith in ap (at (set stack 0 i)) z ∙ here
+
+module _ {m h i : ℕ} {span id stack : List ℕ} (s : Waiting m h i span id stack) (some : 0 < h) where
   -- A cell that the top needs goes on top of it.
   module _ (x : ℕ) (rows : h < length stack) (less : x < at stack (h - 1)) (own : at span x ≡ m) (free : at id x ≡ 12288) where
     here : at (set stack h x) h ≡ x
@@ -34,7 +49,7 @@ module _ {m h i : ℕ} {span id stack : List ℕ} (s : Stacked m h i span id sta
         omega (arith, ap (at (set stack h x)) e ∙ here, other a f, s.falls a (h - 1) (omega arith) (omega arith))
     falls-more a b (no e) f l g = omega (arith, other a (λ z. omega arith), other b e, s.falls a b l (omega arith))
 
-    pub waiting-more : Stacked m (h + 1) i span id (set stack h x)
+    pub waiting-more : Waiting m (h + 1) i span id (set stack h x)
     waiting-more = record {
       bottom = other 0 (λ z. omega arith) ∙ s.bottom;
       level = fill-with (λ j y. at span y ≡ m) stack h x rows own s.level;
@@ -42,7 +57,7 @@ module _ {m h i : ℕ} {span id stack : List ℕ} (s : Stacked m h i span id sta
       falls = λ a b l g. falls-more a b (ℕ_discrete b h) (ℕ_discrete a h) l g;
     }
 
-  pub waiting-less : (n : ℕ) → Stacked m (h - 1) i span (set id (at stack (h - 1)) n) stack
+  pub waiting-less : (n : ℕ) → Waiting m (h - 1) i span (set id (at stack (h - 1)) n) stack
   waiting-less n = record {
     bottom = s.bottom;
     level = λ j l. s.level j (omega arith);
@@ -54,7 +69,21 @@ module _ {m h i : ℕ} {span id stack : List ℕ} (s : Stacked m h i span id sta
 
 -- ── Levels ──────────────────────────────────────────────────────────────────────────────────
 
+pub begun-none : {n : ℕ} {span code levels : List ℕ} → LevelsBegun 0 n span code levels
+begun-none = record {
+  within = λ a h. absurd (let z : ⊥ = omega arith in z);
+  climbs = λ a h. absurd (let z : ⊥ = omega arith in z);
+  low = λ a q h l. absurd (let z : ⊥ = omega arith in z);
+}
+
 module _ {m n : ℕ} {span code levels : List ℕ} (s : LevelsBegun m n span code levels) where
+  pub begun_kept : {r : ℕ} {codes : List ℕ} → n ≤ r → ((q : ℕ) → q < n → at codes q ≡ at code q) → LevelsBegun m r span codes levels
+  begun_kept l kept = record {
+    within = λ a h. omega (arith, s.within a h);
+    climbs = s.climbs;
+    low = λ a q h o. subst (λ x. at span x < a) (sym (kept q (omega (arith, s.within a h)))) (s.low a q h o);
+  }
+
   module _ (rows : m < length levels) (below : (q : ℕ) → q < n → at span (at code q) < m) where
     pub begun-here : at (set levels m n) m ≡ n
     begun-here = get_or-set_same levels m n 0 rows
@@ -80,6 +109,16 @@ module _ {m n : ℕ} {span code levels : List ℕ} (s : LevelsBegun m n span cod
       climbs = λ a h. climbs-more a (ℕ_discrete (suc a) m) h;
       low = λ a q h l. low-more a q (ℕ_discrete a m) h l;
     }
+
+-- A level is done: its cells and those before have their numbers.
+pub level-turn : {L : Layers} {m n r : ℕ} {old id code levels : List ℕ} → L.cells ≤ 12288 → m < length levels → ((q : ℕ) → q < n → at L.span (at old q) < m)
+    → LevelsBegun m n L.span old levels → Extended L m n r old id code → LevelNumbered L m r id
+    → Numbered L (m + 1) r id code × LevelsBegun (m + 1) r L.span code (set levels m n) × ((q : ℕ) → q < r → at L.span (at code q) < m + 1)
+level-turn few rows below b x all = (
+  numbered-level few x.numbered all,
+  begun_kept (begun_more b rows below) x.more x.kept,
+  λ q h. omega (arith, x.numbered.level q h),
+)
 
 pub ranked : {k m n : ℕ} {L : Layers} {id code levels : List ℕ} → L.cells ≤ 12288 → Spans k L.first L.operand L.span L.cells → m ≡ k + 1
     → Numbered L m n id code → LevelsBegun (m + 1) n L.span code levels → at levels m ≡ n → Ranked L.cells k L.first L.operand id code levels

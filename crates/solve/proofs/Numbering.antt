@@ -1,14 +1,18 @@
 -- New numbers, cell by cell.
 --   layered             the spans are levels
+--   numbered-none       no number is given yet
 --   numbered-room       while a cell has no number, fewer are given than there are cells
 --   numbered_more       one number more: for a cell of level m, after all that it needs
 --   extended-one        so the numbers given before stay
 --   numbered-all        when every cell has a number, there are as many numbers as cells
+--   numbered-level      all cells of a level have numbers
 --   numbered-ready      nothing is missing that a cell needs
+--   extended-same, extended-more     the numbers that were given stay, also when more are given twice
+--   extended-number     a cell that had a number has one
 use Prim.Native.Nat.{ℕ, zero, suc, ◌+◌, ◌-◌, ◌≤◌, ◌<◌}
 use native.Mathlib.Omega.{arith}
 use native.Mathlib.Decide.{ℕ_discrete, dec_lt}
-use mathlib.Core.Path.{◌≡◌, sym, subst, ap, ◌∙◌}
+use mathlib.Core.Path.{◌≡◌, refl, sym, subst, ap, ◌∙◌}
 use mathlib.Core.Logic.{◌⊎◌, inl, inr, ⊎_elim}
 use mathlib.Core.List.{List}
 use lib.ListN.{length, set, length-set}
@@ -16,11 +20,11 @@ use lib.Seq.{get_or-set_same, get_or-set_other}
 use Rattle.theory.proofs.numbers.Pigeon.{no-injection, cons}
 use Rattle.graph.specs.Columns.{at}
 use Rattle.solve.specs.inner.Parts.{OperandsWired, Spans}
-use Rattle.solve.specs.inner.Numbers.{Layers, layersOf, LevelsRise, Missing, Numbered, Extended}
+use Rattle.solve.specs.inner.Numbers.{Layers, layersOf, Layered, Missing, Numbered, Extended, LevelNumbered}
 use Rattle.solve.proofs.Spanning.{reach-cell}
 
 pub layered : {cells k : ℕ} {first operand span : List ℕ} → OperandsWired cells first operand → cells ≤ length span
-    → Spans k first operand span cells → LevelsRise (layersOf cells first operand span)
+    → Spans k first operand span cells → Layered (layersOf cells first operand span)
 layered {cells} {k} {first} {operand} {span} w rows s = record {
   wired = w;
   span-rows = rows;
@@ -28,6 +32,20 @@ layered {cells} {k} {first} {operand} {span} w rows s = record {
 }
 
 -- ── One number more ─────────────────────────────────────────────────────────────────────────
+
+pub numbered-none : {L : Layers} {id code : List ℕ} → L.cells ≤ length id → L.cells ≤ length code
+    → ((i : ℕ) → i < L.cells → at id i ≡ 12288) → Numbered L 0 0 id code
+numbered-none rows room none = record {
+  few = omega arith;
+  id-rows = rows;
+  code-rows = room;
+  cell = λ q h. absurd (let z : ⊥ = omega arith in z);
+  number = λ q h. absurd (let z : ⊥ = omega arith in z);
+  each = λ i h. inl (none i h);
+  sources = λ i j h l a b o. absurd (let z : ⊥ = omega arith in z);
+  lower = λ i h l. absurd (let z : ⊥ = omega arith in z);
+  level = λ q h. absurd (let z : ⊥ = omega arith in z);
+}
 
 module _ {L : Layers} {m n : ℕ} {id code : List ℕ} (few : L.cells ≤ 12288) (s : Numbered L m n id code) where
   -- The cells of the numbers and this one are all different.
@@ -152,8 +170,25 @@ module _ {L : Layers} {m n : ℕ} {id code : List ℕ} (few : L.cells ≤ 12288)
         → Extended L m a (n + 1) old (set id i n) (set code n i)
     extended-one l kept = record { numbered = numbered_more; more = omega arith; kept = λ q o. code_other q (λ z. omega arith) ∙ kept q o }
 
+  pub numbered-level : LevelNumbered L m n id → Numbered L (m + 1) n id code
+  numbered-level all = record {
+    few = s.few;
+    id-rows = s.id-rows;
+    code-rows = s.code-rows;
+    cell = s.cell;
+    number = s.number;
+    each = s.each;
+    sources = s.sources;
+    lower = λ i h l. go i h l (ℕ_discrete (at L.span i) m);
+    level = λ q h. omega (arith, s.level q h);
+  }
+    where
+      go : (i : ℕ) → i < L.cells → at L.span i < m + 1 → Dec (at L.span i ≡ m) → at id i < n
+      go i h l (yes e) = all i h e
+      go i h l (no e) = s.lower i h (omega arith)
+
   -- Cells of lower levels have their numbers, and of this one none is missing.
-  pub numbered-ready : {i r : ℕ} → LevelsRise L → i < L.cells → at L.span i ≡ m → Missing L id i r → 12288 ≤ r
+  pub numbered-ready : {i r : ℕ} → Layered L → i < L.cells → at L.span i ≡ m → Missing L id i r → 12288 ≤ r
       → (j : ℕ) → at L.first i ≤ j → j < at L.first (suc i) → 32 ≤ at L.operand j → at id (at L.operand j - 32) < n
   numbered-ready {i} v h own g o j a b big =
       let x = at L.operand j - 32 in
@@ -163,3 +198,25 @@ module _ {L : Layers} {m n : ℕ} {id code : List ℕ} (few : L.cells ≤ 12288)
       go : at L.operand j - 32 < L.cells → Dec (at L.span (at L.operand j - 32) ≡ at L.span i) → at id (at L.operand j - 32) < n
       go l (yes e) = numbered-given (at L.operand j - 32) l (g.none o j a b big e)
       go l (no e) = s.lower (at L.operand j - 32) l (omega (arith, v.above i j h a b big))
+
+-- ── Numbers that were given ─────────────────────────────────────────────────────────────────
+
+module _ {L : Layers} {m : ℕ} where
+  pub extended-same : {n : ℕ} {id code : List ℕ} → Numbered L m n id code → Extended L m n n code id code
+  extended-same s = record { numbered = s; more = omega arith; kept = λ q h. refl }
+
+  pub extended-more : {a b r : ℕ} {old id code ids codes : List ℕ} → Extended L m a b old id code
+      → Extended L m b r code ids codes → Extended L m a r old ids codes
+  extended-more s t = record {
+    numbered = t.numbered;
+    more = omega (arith, s.more, t.more);
+    kept = λ q h. t.kept q (omega (arith, s.more)) ∙ s.kept q h;
+  }
+
+  -- By the column `code`, which has stayed.
+  pub extended-number : {n r : ℕ} {id code ids codes : List ℕ} (i : ℕ) → L.cells ≤ 12288 → Numbered L m n id code
+      → Extended L m n r code ids codes → i < L.cells → at id i < n → at ids i < r
+  extended-number {n} {r} {id} {code} {ids} {codes} i few s t h l =
+      let e : at code (at id i) ≡ i = ⊎_elim (λ z. absurd (let y : ⊥ = omega (arith, s.few) in y)) (λ z. z.1) (s.each i h) in
+      let g = ap (at ids) (sym (t.kept (at id i) l ∙ e)) ∙ t.numbered.number (at id i) (omega (arith, t.more)) in
+      omega (arith, g, t.more)

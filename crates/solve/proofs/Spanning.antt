@@ -1,7 +1,8 @@
 -- Spans, cell by cell.
 --   reach-bit, reach-cell      what a chosen bit depends on, and what a cell does
 --   reach-kept          a store at a later cell leaves what an operand depends on
---   spans-more          the spans of one cell more
+--   spans-read          what `span_of` asks of a cell's operands
+--   spans-none, spans-more     of no cell, and of one cell more
 use Prim.Native.Nat.{ℕ, suc, ◌+◌, ◌-◌, ◌≤◌, ◌<◌}
 use native.Mathlib.Omega.{arith}
 use native.Mathlib.Decide.{ℕ_discrete, dec_lt}
@@ -12,7 +13,7 @@ use borrow.Author.Tests.{lt-ltb, le-ltb}
 use lib.ListN.{length, set}
 use lib.Seq.{get_or-set_same, get_or-set_other}
 use Rattle.graph.specs.Columns.{at}
-use Rattle.solve.specs.inner.Parts.{depth, LargestSpan, OperandsWired, BitsBelow, Spans}
+use Rattle.solve.specs.inner.Parts.{depth, Most, OperandsWired, BitsBelow, Spans}
 
 pub reach-bit : (span : List ℕ) (x : ℕ) → x < 32 → depth span x ≡ suc x
 unfolding depth
@@ -22,9 +23,16 @@ pub reach-cell : (span : List ℕ) (x : ℕ) → 32 ≤ x → depth span x ≡ a
 unfolding depth
 reach-cell span x h = rw (le-ltb x 32 h)
 
+pub spans-read : (cells : ℕ) (first operand span : List ℕ) (i : ℕ) → OperandsWired cells first operand → i < cells → cells ≤ length span
+    → (at first (i + 1) ≤ length operand) × ((j : ℕ) → at first i ≤ j → j < at first (i + 1) → 32 ≤ at operand j → at operand j - 32 < length span)
+spans-read cells first operand span i w l rows = rw (add-one i) (w.in_rows i l, λ j a b h. omega (arith, w.earlier i j l a b))
+
+pub spans-none : (k : ℕ) (first operand span : List ℕ) → Spans k first operand span 0
+spans-none k first operand span = record { most = λ i h. absurd (let z : ⊥ = omega arith in z); above = λ i j h a b. absurd (let z : ⊥ = omega arith in z) }
+
 module _ (cells k : ℕ) (first operand span : List ℕ) (i r : ℕ) (w : OperandsWired cells first operand) (bits : BitsBelow cells k first operand) (s : Spans k first operand span i) (l : i < cells)
-    (rows : cells ≤ length span) (t : LargestSpan operand span (at first i) (at first (i + 1)) r) where
-  m : LargestSpan operand span (at first i) (at first (suc i)) r
+    (rows : cells ≤ length span) (t : Most operand span (at first i) (at first (i + 1)) r) where
+  m : Most operand span (at first i) (at first (suc i)) r
   m = rw (add-one i) at t
 
   -- Operands of the first cells are bits or cells before i.

@@ -3,7 +3,7 @@
 ghost use Rattle.std.specs.Prelude.{◌≡◌, ℕ, ◌/◌, ◌≤◌, ◌<◌, length};
 ghost use Rattle.graph.specs.Columns.{at};
 ghost use Rattle.solve.specs.inner.Parts.{OperandsWired};
-ghost use Rattle.solve.specs.inner.Numbers.{layersOf, LevelsRise, Missing, Numbered, Extended, LevelNumbered, CanNumber, Ranked};
+ghost use Rattle.solve.specs.inner.Numbers.{layersOf, Layered, Missing, Numbered, Extended, LevelNumbered, CanNumber, Ranked};
 
 use crate::spans::spans;
 use crate::{CELLS, FEW_CELLS, LEVELS, NONE};
@@ -45,7 +45,7 @@ fn number_cell(
     id: &mut [u16],
     code: &mut [u16],
 ) -> usize
-    requires layered { LevelsRise (layersOf cells first.now operand.now span.now)
+    requires layered { Layered (layersOf cells first.now operand.now span.now)
         × (cells ≤ length stack.old) × (i < cells) × (at id.old i ≡ 12288) }
     requires numbered { Numbered (layersOf cells first.now operand.now span.now) (at span.now i) n id.old code.old }
     ensures extended { Extended (layersOf cells first.now operand.now span.now)
@@ -84,7 +84,7 @@ fn number_if(
     id: &mut [u16],
     code: &mut [u16],
 ) -> usize
-    requires layered { LevelsRise (layersOf cells first.now operand.now span.now) × (cells ≤ length stack.old) × (i < cells) }
+    requires layered { Layered (layersOf cells first.now operand.now span.now) × (cells ≤ length stack.old) × (i < cells) }
     requires numbered { Numbered (layersOf cells first.now operand.now span.now) m n id.old code.old }
     ensures extended { Extended (layersOf cells first.now operand.now span.now)
         m n result code.old id.new code.new }
@@ -109,7 +109,7 @@ fn number_due(
     id: &mut [u16],
     code: &mut [u16],
 ) -> usize
-    requires layered { LevelsRise (layersOf cells first.now operand.now span.now) × (cells ≤ length stack.old) }
+    requires layered { Layered (layersOf cells first.now operand.now span.now) × (cells ≤ length stack.old) }
     requires by_index { (x : ℕ) → x < length due.now → at due.now x / 2 < cells }
     requires numbered { Numbered (layersOf cells first.now operand.now span.now) m n id.old code.old }
     ensures { Extended (layersOf cells first.now operand.now span.now)
@@ -137,7 +137,7 @@ fn number_rest(
     id: &mut [u16],
     code: &mut [u16],
 ) -> usize
-    requires layered { LevelsRise (layersOf cells first.now operand.now span.now) × (cells ≤ length stack.old) }
+    requires layered { Layered (layersOf cells first.now operand.now span.now) × (cells ≤ length stack.old) }
     requires numbered { Numbered (layersOf cells first.now operand.now span.now) m n id.old code.old }
     ensures extended { Extended (layersOf cells first.now operand.now span.now)
         m n result code.old id.new code.new }
@@ -165,7 +165,7 @@ fn number_level(
     id: &mut [u16],
     code: &mut [u16],
 ) -> usize
-    requires layered { LevelsRise (layersOf cells first.now operand.now span.now) × (cells ≤ length stack.old) }
+    requires layered { Layered (layersOf cells first.now operand.now span.now) × (cells ≤ length stack.old) }
     requires by_index { (x : ℕ) → x < length due.now → at due.now x / 2 < cells }
     requires numbered { Numbered (layersOf cells first.now operand.now span.now) m n id.old code.old }
     ensures extended { Extended (layersOf cells first.now operand.now span.now)

@@ -2,7 +2,7 @@
 // Private to the crate: `solve` hands on the right program that it asks for.
 ghost use Rattle.std.specs.Prelude.{◌≡◌, ℕ, ◌-◌, ◌≤◌, ◌<◌, length};
 ghost use Rattle.graph.specs.Columns.{at};
-ghost use Rattle.solve.specs.inner.Parts.{depth, LargestSpan, OperandsWired, BitsBelow, Spans};
+ghost use Rattle.solve.specs.inner.Parts.{depth, Most, OperandsWired, BitsBelow, Spans};
 
 // How many an operand depends on: a chosen bit on those up to it, a cell on its span.
 fn reach_of(x: u16, span: &[u16]) -> u16
@@ -16,7 +16,7 @@ fn reach_of(x: u16, span: &[u16]) -> u16
 fn span_of(operand: &[u16], start: usize, end: usize, span: &[u16]) -> u16
     requires end_in_bounds { end ≤ length operand.now }
     requires by_index { (j : ℕ) → start ≤ j → j < end → 32 ≤ at operand.now j → at operand.now j - 32 < length span.now }
-    ensures { LargestSpan operand.now span.now start end result }
+    ensures { Most operand.now span.now start end result }
 {
     let mut most: u16 = 0;
     let mut j = start;

@@ -25,7 +25,7 @@ use Rattle.moves.specs.inner.Labels.{Labelled}
 use Rattle.netlist.proofs.Lowest.{count_low}
 use Rattle.moves.proofs.Labels.{from-node, to-node, low-nodes, low-edges}
 use Rattle.starts.specs.inner.Ring.{row, AskedAt, NothingYet, Slots, SlotsOf, EdgeRows, SlotableOf}
-use Rattle.starts.specs.inner.Ahead.{Strides, ClockTaken}
+use Rattle.starts.specs.inner.Ahead.{Strides, Taken}
 use Rattle.starts.proofs.Slots.{slot-in}
 use Rattle.starts.proofs.Listed.{Listed, listed_start, listed-later, Refreshed, refreshed}
 use Rattle.starts.proofs.Held.{Held, held_start}
@@ -165,7 +165,7 @@ module _ (net : Netlist) (lab ins first truth index : List ℕ) (clocks : ℕ) w
             λ l. evaluable (row s + 15872) (⊎_elim (λ a. absurd (let y : ⊥ = omega arith in y)) (λ a. omega (arith, a.2)) strides),
           )
 
-          held-later : (ring' : List ℕ) → Strides net.from net.to net.count net.edges new r s many → ClockTaken net.kind new first slots' (row s) r many ring ring' → Held net lab (s + many) ring'
+          held-later : (ring' : List ℕ) → Strides net.from net.to net.count net.edges new r s many → Taken net.kind new first slots' (row s) r many ring ring' → Held net lab (s + many) ring'
           held-later ring' (inl a) (inr b) = absurd (let y : ⊥ = omega arith in y)
           held-later ring' (inr a) (inl b) = absurd (let y : ⊥ = omega arith in y)
           held-later ring' (inl a) (inl b) =
@@ -178,7 +178,7 @@ module _ (net : Netlist) (lab ins first truth index : List ℕ) (clocks : ℕ) w
               (omega (arith, few-edges, w.ready.rows.0)) (omega (arith, few-edges, slot-rows, w.slot-rows)) right edge-rows ring ring' w.held b.1)
 
           -- After 32 clocks the list is looked through, and the slots are found anew.
-          pub following-next : (ring' : List ℕ) → ClockTaken net.kind new first slots' (row s) r many ring ring' → Following net lab ins first truth index clocks (s + many) new r slots' ring'
+          pub following-next : (ring' : List ℕ) → Taken net.kind new first slots' (row s) r many ring ring' → Following net lab ins first truth index clocks (s + many) new r slots' ring'
           following-next ring' q = record {
             ready = w.ready;
             clocks-low = w.clocks-low;

@@ -15,7 +15,7 @@ use Rattle.graph.specs.Columns.{at}
 use Rattle.gates.specs.inner.Gates.{AllBits}
 use Rattle.netlist.specs.declared.Netlist.{Netlist}
 use Rattle.netlist.specs.Net.{withColumns, graph_of, regs_of}
-use Rattle.netlist.specs.inner.Words.{movedRegs}
+use Rattle.netlist.specs.inner.Words.{retimedAt}
 use Rattle.netlist.proofs.Lowest.{count_low}
 use Rattle.lags.proofs.Laws.{lag-label, lag-up}
 use Rattle.moves.specs.inner.Labels.{lagsOf, chosenAt}
@@ -86,6 +86,6 @@ pub moved-is : (net : Netlist) (lab counts : List ℕ) (c : ℕ) → Moving net 
     → Filled (at counts) none net.edges bytes → Filled (startsAt net lab counts c) none net.edges words → withColumns net bytes words ≡ movedNet net (lagsOf lab) c
 unfolding movedNet move
 moved-is net lab counts c m bytes words p q a b =
-    sym (with-is net (movedRegs net (lagsOf lab) c) bytes words (low-edges net lab m.labelled) p q
+    sym (with-is net (retimedAt net (lagsOf lab) c) bytes words (low-edges net lab m.labelled) p q
     (record { rows = λ e h. a.rows e h ∙ m.counted e h; past = a.past })
     (record { rows = λ e h. b.rows e h ∙ ap (word_of (start_at net lab c e)) (m.counted e h); past = b.past }))

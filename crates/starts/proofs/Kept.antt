@@ -1,16 +1,17 @@
 -- The members of a list that have a property, put at its own front.
 --   Keeping             of the first i; the others are as they were
+--   keeping_none        of none yet
 --   keeping-like        of equal lists
 --   keeping-hit, keeping-miss    one further: it has the property, or not
 use Prim.Native.Nat.{ℕ, ◌+◌, ◌≤◌, ◌<◌}
 use native.Mathlib.Omega.{arith}
-use mathlib.Core.Path.{◌≡◌, sym, subst, ◌∙◌}
+use mathlib.Core.Path.{◌≡◌, refl, sym, subst, ◌∙◌}
 use mathlib.Core.List.{List}
 use lib.ListN.{length, set, length-set}
 use lib.Seq.{get_or-set_other}
 use Rattle.graph.specs.Columns.{at}
 use Rattle.graph.specs.inner.Lists.{Filtered}
-use Rattle.graph.proofs.Fills.{filtered-hit, filtered-miss}
+use Rattle.graph.proofs.Fills.{filtered-none, filtered-hit, filtered-miss}
 
 pub record Keeping (P : ℕ → Type 0) (old : List ℕ) (i : ℕ) (new : List ℕ) (r : ℕ) : Type 0 where
   pub size : length new ≡ length old
@@ -18,6 +19,9 @@ pub record Keeping (P : ℕ → Type 0) (old : List ℕ) (i : ℕ) (new : List �
   pub rest : (j : ℕ) → i ≤ j → at new j ≡ at old j
 
 module _ (P : ℕ → Type 0) (old : List ℕ) where
+  pub keeping_none : Keeping P old 0 old 0
+  keeping_none = record { size = refl; kept = filtered-none P old old; rest = λ j h. refl }
+
   pub keeping-like : (i : ℕ) {new new' : List ℕ} {r r' : ℕ} → new ≡ new' → r ≡ r' → Keeping P old i new' r' → Keeping P old i new r
   keeping-like i p q w = rw (p, q) w
 

@@ -3,11 +3,12 @@
 --   turned-edge         past the start values, j rows further is j clocks later
 --   ahead_more, all-next    one clock of a gate more; one gate more
 --   own-part            a gate's own slots, j rows further
+--   inputs-like, clocked-like    with the number of inputs written otherwise
 --   few-inputs          a gate with a truth word has eight inputs at most
 --   Along               after j clocks of a gate: its slots, and the ring
 --   along-start, along-inputs, along-next    before the first; what it sees is in place; one clock more
 --   places-none, places-more    the places of no node yet; one further
---   strides-alone       just one clock is taken, where the next is not one that 32 divides
+--   strides-some, strides-alone    a clock is taken at least, and 32 at most; just one, where the next is not one that 32 divides
 --   row-ahead           in the 32 clocks from one on that 32 divides, row by row
 use Prim.Native.Nat.{ℕ, zero, suc, ◌+◌, ◌-◌, ◌*◌, ◌^◌, ◌/◌, ◌%◌, ◌<◌, ◌≤◌}
 use native.Mathlib.Omega.{arith}
@@ -61,6 +62,13 @@ own-part own slots lo hi j up h l w =
     ap (λ n. take n own) (let z : hi - lo - 0 ≡ hi - lo = omega arith in z)
     ∙ part-map (turned j) slots own (hi - lo) 0 lo (omega arith) (omega arith) (λ k b. ap (at own) (let z : 0 + k ≡ k = omega arith in z) ∙ w k (omega arith))
     ∙ sym (part-map (turned j) slots (map (turned j) slots) (hi - lo) lo lo (let z = length-map slots (turned j) in omega arith) (omega arith) (λ k b. map_at (turned j) slots (lo + k) (omega arith)))
+
+-- With the number of inputs written otherwise.
+pub inputs-like : {truth n k : ℕ} {own sig : List ℕ} → n ≡ k → InputRows truth own 0 n sig → InputRows truth own 0 k sig
+inputs-like {truth} {n} {k} {own} {sig} q = subst (λ x. InputRows truth own 0 x sig) q
+
+pub clocked-like : {truth n k place : ℕ} {own ring own' ring' : List ℕ} → n ≡ k → Clocked truth k place own ring own' ring' → Clocked truth n place own ring own' ring'
+clocked-like {truth} {n} {k} {place} {own} {ring} {own'} {ring'} q = subst (λ x. Clocked truth x place own ring own' ring') (sym q)
 
 pub few-inputs : (truth lo hi : ℕ) → suc (truth / 512) * 2 ^ (hi - lo) ≤ 264 → hi ≤ lo + 8
 few-inputs truth lo hi h = go (dec_le hi (lo + 8))
@@ -153,6 +161,10 @@ places-more list i place h w = record { past = λ k l. go k l (ℕ_discrete (at 
 -- ── How many clocks ─────────────────────────────────────────────────────────────────────────
 
 module _ {from to count list : List ℕ} {edges n s r : ℕ} where
+  pub strides-some : Strides from to count edges list n s r → (0 < r) × (r ≤ 32)
+  strides-some (inl a) = (omega arith, omega arith)
+  strides-some (inr a) = (omega arith, omega arith)
+
   pub strides-alone : Strides from to count edges list n s r → 0 < (s + r) % 32 → r ≡ 1
   strides-alone (inl a) z = a
   strides-alone (inr a) z = absurd (let y : ⊥ = omega (arith, a.0, a.2) in y)

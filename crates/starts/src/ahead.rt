@@ -5,7 +5,7 @@ ghost use Rattle.std.specs.Prelude.{◌≡◌, false, true, List, ℕ, ◌+◌, 
 ghost use Rattle.graph.specs.Columns.{at};
 ghost use Rattle.gates.specs.inner.Gates.{AllBits, Reckons, Table, InputRows, Evaluable, Truths};
 ghost use Rattle.starts.specs.inner.Ring.{row, further};
-ghost use Rattle.starts.specs.inner.Ahead.{Clocked, ahead, allAhead, Places, LeadsOn, Strides, ClockTaken};
+ghost use Rattle.starts.specs.inner.Ahead.{Clocked, ahead, allAhead, Places, LeadsOn, Strides, Taken};
 
 use gates::{evaluate, value};
 use graph::NODES;
@@ -141,7 +141,7 @@ pub fn take(
 )
     requires evaluable { Evaluable node.now truth.now index.now first.now slots.now gates (row s) ring.old × (32768 ≤ length ring.old) }
     requires evaluable_2 { 1 < clocks → Evaluable node.now truth.now index.now first.now slots.now gates (row s + 15872) ring.old }
-    ensures { (kind : List ℕ) → Truths kind node.now truth.now first.now gates → ClockTaken kind node.now first.now slots.now (row s) gates clocks ring.old ring.new }
+    ensures { (kind : List ℕ) → Truths kind node.now truth.now first.now gates → Taken kind node.now first.now slots.now (row s) gates clocks ring.old ring.new }
 {
     let base = s % CLOCKS * NODES;
     if 1 < clocks {

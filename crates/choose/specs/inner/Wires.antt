@@ -1,6 +1,6 @@
 -- The cells put together.
 --   Wirable             what `wire` asks for, whatever the order in which it finds the edges
---   OperandsByEdge      the operands stand, by the edges that enter each node
+--   Wires               the operands stand, by the edges that enter each node
 --   Chooses             the search's answer: the best choice that carries the start, or that none does
 --   Standing            a right program, whose cells give what is due exactly where the choice carries the start
 use Rattle.std.specs.Prelude.{◌≡◌, Bool, true, false, ◌↔◌, List, ℕ, ◌<◌, ◌≤◌, ℤ, length}
@@ -28,7 +28,7 @@ pub record Wirable (net : Netlist) (counts base id code : List ℕ) (cells : ℕ
   pub ready : (ins begin : List ℕ) → Entering net ins begin → (i : ℕ) → i < cells → OperandRows net.from ins begin counts base id code i
   pub room : (ins begin : List ℕ) → Entering net ins begin → sum (width_at begin code) cells ≤ 24576
 
-pub record OperandsByEdge (net : Netlist) (counts base id code : List ℕ) (cells : ℕ) (first operand : List ℕ) : Type 0 where
+pub record Wires (net : Netlist) (counts base id code : List ℕ) (cells : ℕ) (first operand : List ℕ) : Type 0 where
   pub ins : List ℕ
   pub begin : List ℕ
   pub entering : Entering net ins begin

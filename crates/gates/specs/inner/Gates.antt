@@ -6,7 +6,7 @@
 --   wordFrom w l        the bits l gathered behind the word w, the first one highest
 --   picked w            which bit of a truth word the gathered word w asks for: the number of its ones, and from 256 up the inputs of a selector themselves
 --   worked truth l      what the truth word gives for the inputs l
---   WordSmall truth n   the word of n inputs, gathered behind the seed of the truth word, is below 264
+--   Narrow truth n      the word of n inputs, gathered behind the seed of the truth word, is below 264
 --   Reckons kind n truth   for any n inputs that is what the gate gives, and the gathered word is narrow
 --   Table index         the table of `picked`
 --   InputRows           the signals that one gate sees are in place
@@ -35,12 +35,12 @@ picked w = cond (ltb w 256) (ones w) (w % 8)
 abbrev pub worked : ℕ → List ℕ → ℕ
 worked truth l = bit truth (picked (wordFrom (truth / 512) l))
 
-abbrev pub WordSmall : ℕ → ℕ → Type 0
-WordSmall truth n = suc (truth / 512) * 2 ^ n ≤ 264
+abbrev pub Narrow : ℕ → ℕ → Type 0
+Narrow truth n = suc (truth / 512) * 2 ^ n ≤ 264
 
 pub record Reckons (kind n truth : ℕ) : Type 0 where
   pub gives : (l : List ℕ) → length l ≡ n → AllBits l → worked truth l ≡ gate kind l
-  pub narrow : WordSmall truth n
+  pub narrow : Narrow truth n
 
 pub record Table (index : List ℕ) : Type 0 where
   pub rows : 264 ≤ length index
@@ -49,7 +49,7 @@ pub record Table (index : List ℕ) : Type 0 where
 pub record InputRows (truth : ℕ) (list : List ℕ) (lo hi : ℕ) (sig : List ℕ) : Type 0 where
   pub up : lo ≤ hi
   pub in_list : hi ≤ length list
-  pub narrow : WordSmall truth (hi - lo)
+  pub narrow : Narrow truth (hi - lo)
   pub signals : (j : ℕ) → lo ≤ j → j < hi → (at list j < length sig) × (at sig (at list j) ≤ 1)
 
 -- Gate v sees the signals listed from place first(v) up to first(v + 1), and its value goes to base + v.
@@ -67,7 +67,7 @@ pub record GateRows (truth first list : List ℕ) (base size v : ℕ) : Type 0 w
   pub in_size : base + v < size
   pub up : at first v ≤ at first (suc v)
   pub in_list : at first (suc v) ≤ length list
-  pub narrow : WordSmall (at truth v) (at first (suc v) - at first v)
+  pub narrow : Narrow (at truth v) (at first (suc v) - at first v)
   pub signals : (j : ℕ) → at first v ≤ j → j < at first (suc v) → at list j < size
 
 pub record Evaluable (node truth index first list : List ℕ) (gates base : ℕ) (sig : List ℕ) : Type 0 where

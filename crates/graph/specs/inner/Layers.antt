@@ -13,7 +13,7 @@ use Rattle.graph.specs.Columns.{at, columnGraph}
 use Rattle.graph.specs.Layers.{FromWithin, Layered, NewAt}
 use Rattle.graph.specs.inner.Laid.{Laid}
 use Rattle.graph.specs.inner.Sort.{Stands, EdgesBy}
-use Rattle.graph.specs.inner.Lists.{ListedNodes}
+use Rattle.graph.specs.inner.Lists.{Listed}
 
 -- ── The queue ───────────────────────────────────────────────────────────────────────────────
 
@@ -21,7 +21,7 @@ pub record Queued (nodes : ℕ) (queue marks : List ℕ) (held : ℕ) : Type 0 w
   pub nodes-fit : nodes ≤ 512
   pub queue-rows : length queue ≡ 512
   pub mark-rows : length marks ≡ 512
-  pub listed : ListedNodes nodes held queue marks
+  pub listed : Listed nodes held queue marks
 
 pub record EndOf (to links : List ℕ) (lo hi v : ℕ) : Type 0 where
   pub place : ℕ

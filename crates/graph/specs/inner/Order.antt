@@ -15,7 +15,7 @@ use Rattle.std.specs.Prelude.{◌≡◌, List, ℕ, ◌+◌, ◌<◌, ◌≤◌,
 use Rattle.theory.specs.Walk.{Loop}
 use Rattle.graph.specs.Columns.{at, columnGraph}
 use Rattle.graph.specs.inner.Laid.{Laid}
-use Rattle.graph.specs.inner.Lists.{ListedNodes}
+use Rattle.graph.specs.inner.Lists.{Listed}
 use Rattle.graph.specs.inner.Sort.{Stands, EdgesBy, Ordered}
 
 pub record Wires (nodes edges : ℕ) (from to ins first outs leave : List ℕ) : Type 0 where
@@ -60,7 +60,7 @@ pub record Stage (nodes edges : ℕ) (from to count ins first past order mark : 
   pub past-rows : edges ≤ length past
   pub order-rows : nodes ≤ length order
   pub mark-rows : nodes ≤ length mark
-  pub listed : ListedNodes nodes placed order mark
+  pub listed : Listed nodes placed order mark
   pub bare : (e : ℕ) → e < edges → at past e ≡ 0 → at count e ≡ 0
   pub passed : (e : ℕ) → e < edges → at count e ≡ 0 → ¬ (at past e ≡ 0) → Stands order placed (at from e)
   pub sources-first : (p e : ℕ) → p < placed → e < edges → at to e ≡ at order p → at count e ≡ 0 → Stands order p (at from e)

@@ -13,8 +13,8 @@ evaluation_order-order-requires-clause-laid c =
     let n : length net.count ≡ 1024 = search rules in
     (laid net c.requires.fit (search rules) (search rules), omega (arith, (fit-rows net c.requires.fit).1))
 
-pub evaluation_order-order-requires-clause-no_loop : goal.evaluation_order-order-requires-clause-no_loop
-evaluation_order-order-requires-clause-no_loop c =
+pub evaluation_order-order-requires-clause-by_index : goal.evaluation_order-order-requires-clause-by_index
+evaluation_order-order-requires-clause-by_index c =
     let net = c.args.net in
     λ kind l. c.requires.no_loop (loop-kinds net.nodes net.edges kind net.kind net.from net.to (at net.count) l)
 

@@ -3,7 +3,7 @@
 --   EmptyUnder          an edge that is empty under the labels
 --   LabelOrder          a list of all nodes, each after the source of every edge that enters it and is empty under the labels
 --   HeldAt, Held        0 for an edge that is empty under the labels, and only for such; so for all edges
---   InEdgesReadable     edges whose sources have labels and times
+--   Readable            edges whose sources have labels and times
 --   LatestTime          the latest time of a source of an edge that is empty under the labels, 0 where there is none
 --   Arrived             the arrival times
 --   LatePin             a pin that is late
@@ -41,7 +41,7 @@ Held net lab held = (e : ℕ) → e < net.edges → HeldAt (at lab (at net.from 
 
 -- ── The times ───────────────────────────────────────────────────────────────────────────────
 
-pub record InEdgesReadable (ins from count lab time : List ℕ) (here lo hi : ℕ) : Type 0 where
+pub record Readable (ins from count lab time : List ℕ) (here lo hi : ℕ) : Type 0 where
   pub up : lo ≤ hi
   pub rows : hi ≤ length ins
   pub small : here < 32768

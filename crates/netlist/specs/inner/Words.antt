@@ -4,7 +4,7 @@
 --   newCountAt net r e      the new count of an edge
 --   chosenOnAt net r e      how many values are chosen on an edge
 --   CarriedAt net r choice  the choice carries the start
---   movedRegs net r c       the registers after the move
+--   retimedAt net r c       the registers after the move
 use Rattle.std.specs.Prelude.{ℕ, ℤ}
 use Rattle.theory.specs.Gate.{gate}
 use Rattle.theory.specs.Graph.{Pin}
@@ -30,5 +30,5 @@ chosenOnAt net r e = chosenOn (graph_of net) (regs_of net).count r e
 abbrev pub CarriedAt : Netlist → (ℕ → ℤ) → (ℕ → ℕ → ℕ) → Type 0
 CarriedAt net r choice = Carried gate (graph_of net) (regs_of net) r choice
 
-abbrev pub movedRegs : Netlist → (ℕ → ℤ) → ℕ → Regs
-movedRegs net r c = retimed gate (graph_of net) (regs_of net) r c
+abbrev pub retimedAt : Netlist → (ℕ → ℤ) → ℕ → Regs
+retimedAt net r c = retimed gate (graph_of net) (regs_of net) r c

@@ -1,6 +1,6 @@
 -- Registers that are shared, edge by edge.
---   AgreesFrom f w g x m n  of w registers with the values f, those from distance m up to n agree with x others with the values g, each with all nearer ones
---   AgreesUpTo f w g x m n  and the next one does not
+--   Far f w g x m n         of w registers with the values f, those from distance m up to n agree with x others with the values g, each with all nearer ones
+--   Further f w g x m n     and the next one does not
 --   Shared G R e n m        the registers of e that edges below n share are the nearest m
 --   Counted net n total rails    the edges below n are counted
 use Rattle.std.specs.Prelude.{◌≡◌, true, false, cond, List, ℕ, suc, ◌<◌, ◌≤◌, eqb, ltb}
@@ -12,13 +12,13 @@ use Rattle.netlist.specs.declared.Netlist.{Netlist}
 use Rattle.netlist.specs.Net.{graph_of, regs_of}
 use Rattle.rails.specs.Rails.{agreed, sharedBelow, paidOn}
 
-pub record AgreesFrom (f : ℕ → ℕ) (w : ℕ) (g : ℕ → ℕ) (x m n : ℕ) : Type 0 where
+pub record Far (f : ℕ → ℕ) (w : ℕ) (g : ℕ → ℕ) (x m n : ℕ) : Type 0 where
   pub low : m ≤ n
   pub within : n ≤ w
   pub agree : (d : ℕ) → m ≤ d → d < n → (d < x) × (agreed f g (suc d) ≡ true)
 
-pub record AgreesUpTo (f : ℕ → ℕ) (w : ℕ) (g : ℕ → ℕ) (x m n : ℕ) : Type 0 where
-  pub far : AgreesFrom f w g x m n
+pub record Further (f : ℕ → ℕ) (w : ℕ) (g : ℕ → ℕ) (x m n : ℕ) : Type 0 where
+  pub far : Far f w g x m n
   pub ends : n < w → n < x → agreed f g (suc n) ≡ false
 
 pub record Shared (G : Graph) (R : Regs) (e n m : ℕ) : Type 0 where

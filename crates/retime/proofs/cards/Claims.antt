@@ -20,7 +20,7 @@ use Rattle.netlist.specs.declared.Netlist.{Netlist}
 use Rattle.netlist.specs.Answer.{value}
 use Rattle.netlist.specs.Net.{graph_of, regs_of, delayOf}
 use Rattle.netlist.specs.Circuit.{ManyAt, NarrowAt, chosenInAt}
-use Rattle.netlist.specs.inner.Words.{newCountAt, movedRegs}
+use Rattle.netlist.specs.inner.Words.{newCountAt, retimedAt}
 use Rattle.rules.specs.Rules.{every}
 use Rattle.netlist.specs.Read.{Reads}
 use Rattle.netlist.specs.Write.{text_of}
@@ -77,12 +77,12 @@ module _ (net : Netlist) where
 
   -- The retimed registers are those of the counts and words.
   moved-is : (r : ℕ → ℤ) (c : ℕ) (counts words : List ℕ)
-      → ((e : ℕ) → e < net.edges → (movedRegs net r c).count e ≡ at counts e)
-      → ((e : ℕ) → e < net.edges → (t : ℕ) → t < at counts e → (movedRegs net r c).start e t ≡ bit (at words e) t)
+      → ((e : ℕ) → e < net.edges → (retimedAt net r c).count e ≡ at counts e)
+      → ((e : ℕ) → e < net.edges → (t : ℕ) → t < at counts e → (retimedAt net r c).start e t ≡ bit (at words e) t)
       → with_regs net (newRegs counts words) ≡ movedNet net r c
   unfolding movedNet
   moved-is r c counts words a b =
-      with-same net (movedRegs net r c) (newRegs counts words)
+      with-same net (retimedAt net r c) (newRegs counts words)
       (record { counts = λ e h. sym (a e h); starts = λ e t h l. sym (b e h t (omega (arith, a e h))) })
 
   run-says : (vectors : List ℕ) (n old : ℕ) → T (goes? vectors) → clocks net vectors * outputs net ≡ n → n ≤ old

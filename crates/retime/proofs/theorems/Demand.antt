@@ -31,7 +31,7 @@ use Rattle.netlist.specs.declared.Netlist.{Netlist}
 use Rattle.netlist.specs.Answer.{Said, value, holds}
 use Rattle.netlist.specs.Net.{plain, graph_of, regs_of, delayOf}
 use Rattle.netlist.specs.Circuit.{BestAt, NarrowAt, SoundIn, TraceIn, choiceAt}
-use Rattle.netlist.specs.inner.Words.{LegalAt, PinIn, newCountAt, movedRegs}
+use Rattle.netlist.specs.inner.Words.{LegalAt, PinIn, newCountAt, retimedAt}
 use Rattle.netlist.specs.Read.{Reads}
 use Rattle.netlist.specs.Write.{text_of}
 use Rattle.netlist.proofs.Fits.{edge-fits}
@@ -74,7 +74,7 @@ module _ (t : List ℕ) (net : Netlist) (r : ℕ → ℤ) (c : ℕ) (h : Reads t
       let legal = l.feasible.legal in
       let choice = choiceAt net r c in
       let Z = new-trace gate (graph_of net) ok.wired (regs_of net) ok.no_loop r legal choice ins in
-      sym (unique gate (graph_of net) ok.wired (movedRegs net r c) (regs_of (movedNet net r c)) (moved-regs t net r c h legal)
+      sym (unique gate (graph_of net) ok.wired (retimedAt net r c) (regs_of (movedNet net r c)) (moved-regs t net r c h legal)
       (new-no-loop gate (graph_of net) ok.wired (regs_of net) ok.no_loop r legal choice) Z Y (λ u i hu q. refl) v k hv)
       ∙ says.same r c (record { least = l; best = b }) ins x _ X Z v k hv p
 

@@ -21,7 +21,7 @@ use Rattle.netlist.specs.declared.Netlist.{Netlist}
 use Rattle.netlist.specs.Answer.{value}
 use Rattle.netlist.specs.Net.{plain, graph_of, regs_of}
 use Rattle.netlist.specs.Circuit.{TraceIn, choiceAt}
-use Rattle.netlist.specs.inner.Words.{LegalAt, movedRegs}
+use Rattle.netlist.specs.inner.Words.{LegalAt, retimedAt}
 use Rattle.netlist.specs.Read.{Reads}
 use Rattle.netlist.proofs.Run.{fit-rows}
 use Rattle.netlist.proofs.Written.{text-length}
@@ -41,14 +41,14 @@ pub same_length : SameLength
 same_length t net r c h = written-length net r c ∙ ap length (sym (reads-text h))
 
 module _ (t : List ℕ) (net : Netlist) (r : ℕ → ℤ) (c : ℕ) (h : Reads t (value 0) net) (legal : LegalAt net r) where
-  moved-sound : Sound gate (graph_of net) (movedRegs net r c)
+  moved-sound : Sound gate (graph_of net) (retimedAt net r c)
   moved-sound =
       sound-new gate (graph_of net) (regs_of net) (read-is-sound t net h) r legal (choiceAt net r c) (choice-bit gate (graph_of net) (regs_of net) r c)
 
-  pub moved-regs : SameRegs (graph_of net) (movedRegs net r c) (regs_of (movedNet net r c))
+  pub moved-regs : SameRegs (graph_of net) (retimedAt net r c) (regs_of (movedNet net r c))
   unfolding movedNet
   moved-regs =
-      with-regs net (movedRegs net r c) (fit-rows net ((lines-fact t net).0 (reads-value h).0).0).1 moved-sound.bits.starts
+      with-regs net (retimedAt net r c) (fit-rows net ((lines-fact t net).0 (reads-value h).0).0).1 moved-sound.bits.starts
 
   pub moved-circuit : (ins x : ℕ → ℕ → ℕ) → TraceIn net ins x
       → Moved (graph_of net) (regs_of net) (regs_of (movedNet net r c)) r (choiceAt net r c) x
@@ -56,7 +56,7 @@ module _ (t : List ℕ) (net : Netlist) (r : ℕ → ℤ) (c : ℕ) (h : Reads t
       let ok = read-is-sound t net h in
       let same = moved-regs in
       let m = new-moved-any gate (graph_of net) ok.wired (regs_of net) ok.no_loop r legal (choiceAt net r c) X in
-      let below : (e i : ℕ) → e < net.edges → i < (regs_of (movedNet net r c)).count e → i < (movedRegs net r c).count e =
+      let below : (e i : ℕ) → e < net.edges → i < (regs_of (movedNet net r c)).count e → i < (retimedAt net r c).count e =
       λ e i he hi. omega (arith, same.counts e he) in
       record {
         counts = λ e he. omega (arith, m.counts e he, same.counts e he);
@@ -68,7 +68,7 @@ module _ (t : List ℕ) (net : Netlist) (r : ℕ → ℤ) (c : ℕ) (h : Reads t
 -- A sound netlist moved by legal lags is sound (`sound-new`), and no count is above 32.
 pub moved-reads : MovedReads
 unfolding movedNet move
-moved-reads t net r c h legal narrow = with-reads t net (movedRegs net r c) h (moved-sound t net r c h legal) narrow
+moved-reads t net r c h legal narrow = with-reads t net (retimedAt net r c) h (moved-sound t net r c h legal) narrow
 
 pub moved-alike : (net : Netlist) (r q : ℕ → ℤ) (c : ℕ) → Wired (graph_of net) → ((v : ℕ) → v < net.nodes → r v ≡ q v) → movedNet net r c ≡ movedNet net q c
 unfolding movedNet

@@ -1,5 +1,5 @@
 -- The parts of one clock, on columns: node v's signal stands at v, what edge e shows from its register at 512 + e. All signals are bits.
---   NumbersBelow list n size  the first n places of the list hold numbers below size
+--   Within list n size  the first n places of the list hold numbers below size
 --   written place f n l the list l, with f i stored at place i for each i below n in turn
 --   withInputs          the signals, with a vector's bytes at the listed nodes
 --   withRegisters       so with what the listed edges show from their registers
@@ -10,7 +10,7 @@ use Rattle.std.specs.Prelude.{◌≡◌, List, ℕ, zero, suc, ◌+◌, ◌%◌,
 use Rattle.graph.specs.Columns.{at}
 use Rattle.simulate.specs.Clock.{shifted}
 
-pub record NumbersBelow (list : List ℕ) (n size : ℕ) : Type 0 where
+pub record Within (list : List ℕ) (n size : ℕ) : Type 0 where
   pub rows : n ≤ length list
   pub below : (i : ℕ) → i < n → at list i < size
 

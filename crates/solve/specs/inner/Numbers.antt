@@ -2,12 +2,12 @@
 -- `id` has a cell's number, 12,288 where it has none yet; `code` has a number's cell.
 --   Layers              what the numbering is given: so many cells, where the operands of each begin, all operands, and a level for each cell
 --   layersOf            these together
---   LevelsRise          the level of a cell is no lower than that of a cell that it needs
+--   Layered             the level of a cell is no lower than that of a cell that it needs
 --   Missing             a cell of the same level that cell i needs and that has no number yet, or that there is none
 --   Numbered            n numbers are given: to all cells of levels below m and some of level m, each after what it needs
 --   Extended            so, and the numbers that were given before have stayed
 --   LevelNumbered       all cells of level m have numbers
---   Stacked             a stack of h cells that wait for their numbers, each needed by the one below it; cell i is at the bottom
+--   Waiting             a stack of h cells that wait for their numbers, each needed by the one below it; cell i is at the bottom
 --   LevelsBegun         levels below m begin where they should
 --   CanNumber           what `number_cells` asks: where operands and dues stand, and that no cell has a number yet
 --   Paired              every cell has a number below `cells`, and every such number its cell
@@ -35,7 +35,7 @@ pub record Layers : Type 0 where
 abbrev pub layersOf : ℕ → List ℕ → List ℕ → List ℕ → Layers
 layersOf cells first operand span = record { cells = cells; first = first; operand = operand; span = span }
 
-pub record LevelsRise (L : Layers) : Type 0 where
+pub record Layered (L : Layers) : Type 0 where
   pub wired : OperandsWired L.cells L.first L.operand
   pub span-rows : L.cells ≤ length L.span
   pub above : (i j : ℕ) → i < L.cells → at L.first i ≤ j → j < at L.first (suc i) → 32 ≤ at L.operand j
@@ -68,7 +68,7 @@ abbrev pub LevelNumbered : Layers → ℕ → ℕ → List ℕ → Type 0
 LevelNumbered L m n id = (i : ℕ) → i < L.cells → at L.span i ≡ m → at id i < n
 
 -- A cell is later than those that it needs, so the stack's members fall.
-pub record Stacked (m h i : ℕ) (span id stack : List ℕ) : Type 0 where
+pub record Waiting (m h i : ℕ) (span id stack : List ℕ) : Type 0 where
   pub bottom : at stack 0 ≡ i
   pub level : (j : ℕ) → j < h → at span (at stack j) ≡ m
   pub waits : (j : ℕ) → j < h → at id (at stack j) ≡ 12288

@@ -1,6 +1,6 @@
 -- What the cells of a program depend on. (A program is a row of cells, each a gate over chosen bits and earlier cells.)
 --   depth span x        how many leading bits the operand x depends on: bit x on the first x + 1
---   LargestSpan         the most that a row of operands depends on
+--   Most                the most that a row of operands depends on
 --   OperandsWired       the part of a right program that says where operands are
 --   BitsBelow           and that the chosen bits are below k
 --   Spans               no cell depends on more leading bits than its span
@@ -10,7 +10,7 @@ use Rattle.graph.specs.Columns.{at}
 unfoldable pub depth : List ℕ → ℕ → ℕ
 depth span x = cond (ltb x 32) (suc x) (at span (x - 32))
 
-pub record LargestSpan (operand span : List ℕ) (start end r : ℕ) : Type 0 where
+pub record Most (operand span : List ℕ) (start end r : ℕ) : Type 0 where
   pub above : (j : ℕ) → start ≤ j → j < end → depth span (at operand j) ≤ r
   pub least : (b : ℕ) → ((j : ℕ) → start ≤ j → j < end → depth span (at operand j) ≤ b) → r ≤ b
 

@@ -7,7 +7,7 @@
 --   LeadsOn             each edge between two nodes of the list leads on in it, or has 32 registers
 --   Leading             so for the places in the list
 --   Strides             how many clocks are taken at clock s: one, or 32 from there on
---   ClockTaken          the ring after one clock of a list, or 32
+--   Taken               the ring after one clock of a list, or 32
 use Rattle.std.specs.Prelude.{◌≡◌, ◌⊎◌, List, map, ℕ, zero, suc, ◌+◌, ◌*◌, ◌%◌, ◌<◌, ◌≤◌, set}
 use Rattle.theory.specs.Gate.{gate}
 use Rattle.graph.specs.Columns.{at}
@@ -53,6 +53,6 @@ pub record Leading (from to count : List ℕ) (edges : ℕ) (list : List ℕ) (n
 abbrev pub Strides : List ℕ → List ℕ → List ℕ → ℕ → List ℕ → ℕ → ℕ → ℕ → Type 0
 Strides from to count edges list n s r = (r ≡ 1) ⊎ ((r ≡ 32) × (32 ≤ s) × (s % 32 ≡ 0) × Leading from to count edges list n)
 
-abbrev pub ClockTaken : List ℕ → List ℕ → List ℕ → List ℕ → ℕ → ℕ → ℕ → List ℕ → List ℕ → Type 0
-ClockTaken kind node first slots base gates clocks ring ring' =
+abbrev pub Taken : List ℕ → List ℕ → List ℕ → List ℕ → ℕ → ℕ → ℕ → List ℕ → List ℕ → Type 0
+Taken kind node first slots base gates clocks ring ring' =
     ((clocks ≤ 1) × (ring' ≡ evaluated kind node first slots base gates ring)) ⊎ ((1 < clocks) × (ring' ≡ allAhead kind node first slots base gates ring))

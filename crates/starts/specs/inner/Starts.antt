@@ -5,14 +5,14 @@
 use Rattle.std.specs.Prelude.{List, ℕ, ◌+◌, ◌-◌}
 use Rattle.graph.specs.Columns.{at}
 use Rattle.netlist.specs.declared.Netlist.{Netlist}
-use Rattle.netlist.specs.inner.Words.{movedRegs}
+use Rattle.netlist.specs.inner.Words.{retimedAt}
 use Rattle.moves.specs.Moved.{word_of}
 use Rattle.moves.specs.inner.Labels.{lagsOf}
 use Rattle.starts.specs.inner.Ring.{slot_of}
 
 -- Of the netlist moved by the labels' lags and the choice c.
 abbrev pub start_at : Netlist → List ℕ → ℕ → ℕ → ℕ → ℕ
-start_at net lab c e t = (movedRegs net (lagsOf lab) c).start e t
+start_at net lab c e t = (retimedAt net (lagsOf lab) c).start e t
 
 -- In clock t − r(v).
 abbrev pub shownSlot : ℕ → ℕ → ℕ → ℕ → ℕ → ℕ

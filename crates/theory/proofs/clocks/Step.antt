@@ -5,16 +5,17 @@ use mathlib.Core.List.{List}
 use mathlib.Core.Logic.{⊎_elim}
 use Prim.Native.Nat.{ℕ, zero, suc, ◌+◌, ◌<◌}
 use native.Mathlib.Nat.{eq-or-lt_of_le}
+use native.Mathlib.Decide.{ℕ_discrete}
 use native.Mathlib.Omega.{arith}
 use lib.Dec.{eqb}
 use borrow.Author.Tests.{eqb-true, eqb-false, lt-ltb, le-ltb}
 use Rattle.theory.specs.Graph.{Graph, Wired}
 use Rattle.theory.specs.Walk.{Loop}
-use Rattle.theory.specs.Clock.{Regs, seen, sees, Trace, value}
+use Rattle.theory.specs.Clock.{Regs, seen, gather, sees, Trace, value}
 use Rattle.theory.specs.inner.Stepping.{showsIf, edgeShows, Stepping, next, words, stepValue}
 use Rattle.theory.specs.Step.{holding, oneClock}
 use Rattle.theory.proofs.clocks.Seen.{seen-early, seen-late, gather-same}
-use Rattle.theory.proofs.clocks.Trace.{same-regs-refl, unique}
+use Rattle.theory.proofs.clocks.Trace.{clock-induction, same-regs-refl, unique}
 use Rattle.theory.proofs.clocks.Value.{value-trace}
 
 module _ (gate : ℕ → List ℕ → ℕ) (G : Graph) (R : Regs) {ins x : ℕ → ℕ → ℕ} {word : ℕ → ℕ → ℕ → ℕ} (steps : Stepping gate G R ins x word) where
@@ -70,3 +71,36 @@ module _ (gate : ℕ → List ℕ → ℕ) (G : Graph) (w : Wired G) (R : Regs) 
   -- Running is stepping from the start values.
   pub run_value : (v t : ℕ) → v < G.nodes → stepValue gate G R ins v t ≡ value gate G R ins v t
   run_value = unique gate G w R R (same-regs-refl G R) none (steps-trace gate G R run-steps) (value-trace gate G w R none ins) (λ v t hv p. refl)
+
+-- Values that fit the inputs and the gates in one clock are that clock's values: so code may work them out in any order.
+module _ (gate : ℕ → List ℕ → ℕ) (G : Graph) (w : Wired G) (R : Regs) (none : ¬ Loop G R.count) (word : ℕ → ℕ → ℕ) (now x : ℕ → ℕ)
+    (at-input : (v : ℕ) → v < G.nodes → G.kind v ≡ 0 → x v ≡ now v)
+    (at-gate : (v : ℕ) → v < G.nodes → ¬ (G.kind v ≡ 0) → x v ≡ gate (G.kind v) (gather G.dst (edgeShows G R word x) v G.edges)) where
+  shows_same : (y : ℕ → ℕ) (e : ℕ) → (R.count e ≡ 0 → x (G.src e) ≡ y (G.src e)) → edgeShows G R word x e ≡ edgeShows G R word y e
+  unfolding edgeShows showsIf
+  shows_same y e same = go (eqb (R.count e) 0) refl
+    where
+      go : (b : Bool) → eqb (R.count e) 0 ≡ b → showsIf b G word x e ≡ showsIf b G word y e
+      go true p = same (eqb-true (R.count e) 0 p)
+      go false p = refl
+
+  pub clock-values : (v : ℕ) → v < G.nodes → x v ≡ oneClock gate G R word now v
+  unfolding oneClock sees
+  clock-values v hv = clock-induction G w (holding R word) none (λ v t. t ≡ 0 → x v ≡ y v) step v 0 hv refl
+    where
+      y : ℕ → ℕ
+      y v = value gate G (holding R word) (λ u k. now u) v 0
+
+      Y : Trace gate G (holding R word) (λ u k. now u) (value gate G (holding R word) (λ u k. now u))
+      Y = value-trace gate G w (holding R word) none (λ u k. now u)
+
+      step : (v t : ℕ) → v < G.nodes → ((e k : ℕ) → e < G.edges → G.dst e ≡ v → R.count e + k ≡ t → k ≡ 0 → x (G.src e) ≡ y (G.src e)) → t ≡ 0 → x v ≡ y v
+      step v t hv ih z = go (ℕ_discrete (G.kind v) 0)
+        where
+          go : Dec (G.kind v ≡ 0) → x v ≡ y v
+          go (yes p) = at-input v hv p ∙ sym (Y.at-input v 0 hv p)
+          go (no n) =
+              at-gate v hv n
+              ∙ ap (gate (G.kind v)) (gather-same G.dst _ _ v G.edges
+              (λ e he d. shows_same y e (λ q. ih e 0 he d (omega arith) refl) ∙ sym (shows_first G R word (value gate G (holding R word) (λ u k. now u)) e)))
+              ∙ sym (Y.at-gate v 0 hv n)

@@ -13,6 +13,6 @@ evaluation_order-requires-clause-laid c =
     let s = c.requires.labelled.0 in
     (laid c.args.net s.fit (search rules) (search rules), omega (arith, low-edges c.args.net c.args.lab.now s))
 
-pub evaluation_order-requires-clause-no_loop : goal.evaluation_order-requires-clause-no_loop
-evaluation_order-requires-clause-no_loop c =
+pub evaluation_order-requires-clause-by_index : goal.evaluation_order-requires-clause-by_index
+evaluation_order-requires-clause-by_index c =
     moved-no-loop c.args.net c.args.lab.now c.args.counts.now c.requires.labelled.0 c.requires.labelled.1 c.requires.not_loop_in c.bytes_of-bytes.result c.bytes_of-bytes.ensures.rows

@@ -1,4 +1,4 @@
--- `graph::layers::mark` meets its contract: the node has a mark, or gets one (`spread-new`).
+-- `graph::layers::mark` meets its contract: the node has a mark, or gets one (`spread-seen`, `spread-new`).
 use Rattle.std.proofs.Common.{arith}
 use Rattle.graph.proofs.Spread.{mark-room, spread-new}
 use Rattle.graph.proofs.layers.mark.Goals as goal

@@ -3,4 +3,4 @@ use Rattle.graph.proofs.Evaluation.{found-ordered}
 use Rattle.graph.proofs.order.evaluation_order.Goals as goal
 
 pub returns : goal.returns
-returns c = found-ordered c.order_of-found.ensures c.requires.no_loop
+returns c = found-ordered c.order_of-found.ensures c.requires.by_index

@@ -11,8 +11,8 @@ evaluation_order-requires-clause-laid c =
     let n : length c.registers_under-held.result ≡ 1024 = search rules in
     (l, omega (arith, l.edges_fit))
 
-pub evaluation_order-requires-clause-no_loop : goal.evaluation_order-requires-clause-no_loop
-evaluation_order-requires-clause-no_loop c =
+pub evaluation_order-requires-clause-by_index : goal.evaluation_order-requires-clause-by_index
+evaluation_order-requires-clause-by_index c =
     let r = c.registers_under-held in
     held-loop c.args.net c.args.lab.now r.result r.ensures c.requires.0.no_loop
 

@@ -3,17 +3,17 @@ use Rattle.std.proofs.Common.{ℕ, List, length, ◌+◌, ◌-◌, ◌≤◌, �
 use lib.ListN.{set, length-set}
 use lib.Seq.{get_or-set_same}
 use Rattle.graph.specs.Columns.{at}
-use Rattle.solve.specs.inner.Numbers.{Layers, LevelsRise, Numbered, Stacked}
+use Rattle.solve.specs.inner.Numbers.{Layers, Layered, Numbered, Waiting}
 use Rattle.solve.proofs.Numbering.{numbered-room, numbered-ready, extended-one}
 use Rattle.solve.proofs.Levelling.{waiting-more, waiting-less}
 use Rattle.solve.proofs.numbers.number_cell.Goals as goal
 
 -- The top of the stack is no later than cell i, by as much at least as there is below it.
-top : {m h i : ℕ} {span id stack : List ℕ} → Stacked m h i span id stack → 0 < h → at stack (h - 1) + (h - 1) ≤ i
+top : {m h i : ℕ} {span id stack : List ℕ} → Waiting m h i span id stack → 0 < h → at stack (h - 1) + (h - 1) ≤ i
 top {h = h} w some = omega (arith, w.falls 0 (h - 1) (omega arith) (omega arith), w.bottom)
 
 -- There is a number left for it.
-room : {L : Layers} {m n h i : ℕ} {id code stack : List ℕ} → LevelsRise L → i < L.cells → Numbered L m n id code → Stacked m h i L.span id stack → 0 < h → n < L.cells
+room : {L : Layers} {m n h i : ℕ} {id code stack : List ℕ} → Layered L → i < L.cells → Numbered L m n id code → Waiting m h i L.span id stack → 0 < h → n < L.cells
 room {h = h} {stack = stack} v low s w some =
     numbered-room v.wired.few-cells s (at stack (h - 1)) (omega (arith, top w some)) (w.waits (h - 1) (omega arith))
 

@@ -14,8 +14,8 @@ evaluation_order-list-requires-clause-laid c =
     let ok = c.requires.0 in
     (laid net ok.fit (search rules) (search rules), omega (arith, (fit-rows net ok.fit).1))
 
-pub evaluation_order-list-requires-clause-no_loop : goal.evaluation_order-list-requires-clause-no_loop
-evaluation_order-list-requires-clause-no_loop c =
+pub evaluation_order-list-requires-clause-by_index : goal.evaluation_order-list-requires-clause-by_index
+evaluation_order-list-requires-clause-by_index c =
     let net = c.args.net in
     λ kind l. c.requires.0.no_loop (loop-kinds net.nodes net.edges kind net.kind net.from net.to (at net.count) l)
 
