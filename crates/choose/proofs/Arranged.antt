@@ -1,83 +1,83 @@
 -- An order that has each node has it once.
---   ordered-arranged    an evaluation order has each node once
+--   ordered_arranged    an evaluation order has each node once
 use Prim.Native.Nat.{ℕ, ◌≤◌, ◌<◌}
 use native.Mathlib.Omega.{arith}
 use native.Mathlib.Decide.{ℕ_discrete, dec_lt}
 use mathlib.Core.Path.{◌≡◌, refl, sym, subst, ap, ◌∙◌}
 use mathlib.Core.List.{List}
 use lib.ListN.{length}
-use Rattle.theory.proofs.numbers.Pigeon.{no-injection}
+use Rattle.theory.proofs.numbers.Pigeon.{no_injection}
 use Rattle.graph.specs.Columns.{at}
 use Rattle.graph.specs.inner.Sort.{Stands, Ordered}
 use Rattle.choose.specs.inner.Numbers.{Arranged}
 
 -- Each node has a place, so no place is left for a second.
 module _ (order : List ℕ) (nodes : ℕ) (every : (v : ℕ) → v < nodes → Stands order nodes v) where
-  spare-place : (o : ℕ) (v : ℕ) → Dec (v < nodes) → ℕ
-  spare-place o v (yes h) = (every v h).place
-  spare-place o v (no h) = o
+  spare_place : (o : ℕ) (v : ℕ) → Dec (v < nodes) → ℕ
+  spare_place o v (yes h) = (every v h).place
+  spare_place o v (no h) = o
 
   spare : ℕ → ℕ → ℕ
-  spare o v = spare-place o v (dec_lt v nodes)
+  spare o v = spare_place o v (dec_lt v nodes)
 
-  spare-in : (o v : ℕ) → v < nodes → (spare o v < nodes) × (at order (spare o v) ≡ v)
-  unfolding spare spare-place
-  spare-in o v h = go (dec_lt v nodes)
+  spare_in : (o v : ℕ) → v < nodes → (spare o v < nodes) × (at order (spare o v) ≡ v)
+  unfolding spare spare_place
+  spare_in o v h = go (dec_lt v nodes)
     where
-      go : (d : Dec (v < nodes)) → (spare-place o v d < nodes) × (at order (spare-place o v d) ≡ v)
+      go : (d : Dec (v < nodes)) → (spare_place o v d < nodes) × (at order (spare_place o v d) ≡ v)
       go (yes k) = ((every v k).within, (every v k).holds)
       go (no k) = absurd (k h)
 
-  spare-out : (o : ℕ) → spare o nodes ≡ o
-  unfolding spare spare-place
-  spare-out o = go (dec_lt nodes nodes)
+  spare_out : (o : ℕ) → spare o nodes ≡ o
+  unfolding spare spare_place
+  spare_out o = go (dec_lt nodes nodes)
     where
-      go : (d : Dec (nodes < nodes)) → spare-place o nodes d ≡ o
+      go : (d : Dec (nodes < nodes)) → spare_place o nodes d ≡ o
       go (yes k) = absurd (let z : ⊥ = omega arith in z)
       go (no k) = refl
 
   -- A place that is not the one that its node has.
-  no-spare : (o : ℕ) → o < nodes → ((v : ℕ) → v < nodes → ¬ (spare o v ≡ o)) → ⊥
-  no-spare o h other =
-      no-injection nodes (spare o)
+  no_spare : (o : ℕ) → o < nodes → ((v : ℕ) → v < nodes → ¬ (spare o v ≡ o)) → ⊥
+  no_spare o h other =
+      no_injection nodes (spare o)
       (λ i l. go i l (ℕ_discrete i nodes))
       (λ i j l m q. two i j l m q (ℕ_discrete j nodes))
     where
       go : (i : ℕ) → i ≤ nodes → Dec (i ≡ nodes) → spare o i < nodes
-      go i l (yes z) = subst (λ x. spare o x < nodes) (sym z) (subst (λ x. x < nodes) (sym (spare-out o)) h)
-      go i l (no z) = (spare-in o i (omega arith)).0
+      go i l (yes z) = subst (λ x. spare o x < nodes) (sym z) (subst (λ x. x < nodes) (sym (spare_out o)) h)
+      go i l (no z) = (spare_in o i (omega arith)).0
 
       two : (i j : ℕ) → i < j → j ≤ nodes → spare o i ≡ spare o j → Dec (j ≡ nodes) → ⊥
-      two i j l m q (yes z) = other i (omega arith) (q ∙ ap (spare o) z ∙ spare-out o)
+      two i j l m q (yes z) = other i (omega arith) (q ∙ ap (spare o) z ∙ spare_out o)
       two i j l m q (no z) =
-          let e : i ≡ j = sym (spare-in o i (omega arith)).1 ∙ ap (at order) q ∙ (spare-in o j (omega arith)).1 in
+          let e : i ≡ j = sym (spare_in o i (omega arith)).1 ∙ ap (at order) q ∙ (spare_in o j (omega arith)).1 in
           omega arith
 
-  spare-same : (o u v : ℕ) → v < nodes → spare o v ≡ spare u v
-  unfolding spare spare-place
-  spare-same o u v h = go (dec_lt v nodes)
+  spare_same : (o u v : ℕ) → v < nodes → spare o v ≡ spare u v
+  unfolding spare spare_place
+  spare_same o u v h = go (dec_lt v nodes)
     where
-      go : (d : Dec (v < nodes)) → spare-place o v d ≡ spare-place u v d
+      go : (d : Dec (v < nodes)) → spare_place o v d ≡ spare_place u v d
       go (yes k) = refl
       go (no k) = absurd (k h)
 
-  place-once : (p q : ℕ) → p < q → q < nodes → at order q < nodes → ¬ (at order p ≡ at order q)
-  place-once p q h l k e = go (ℕ_discrete (spare q (at order q)) q)
+  place_once : (p q : ℕ) → p < q → q < nodes → at order q < nodes → ¬ (at order p ≡ at order q)
+  place_once p q h l k e = go (ℕ_discrete (spare q (at order q)) q)
     where
       back : (o : ℕ) → at order o ≡ at order q → ¬ (spare o (at order q) ≡ o) → (u : ℕ) → u < nodes → ¬ (spare o u ≡ o)
       back o a b u m z =
-          let w : u ≡ at order q = sym (spare-in o u m).1 ∙ ap (at order) z ∙ a in
+          let w : u ≡ at order q = sym (spare_in o u m).1 ∙ ap (at order) z ∙ a in
           b (ap (spare o) (sym w) ∙ z)
 
       go : Dec (spare q (at order q) ≡ q) → ⊥
-      go (yes z) = no-spare p (omega arith) (back p e (λ y. let n : p ≡ q = sym y ∙ spare-same p q (at order q) k ∙ z in omega arith))
-      go (no z) = no-spare q l (back q refl z)
+      go (yes z) = no_spare p (omega arith) (back p e (λ y. let n : p ≡ q = sym y ∙ spare_same p q (at order q) k ∙ z in omega arith))
+      go (no z) = no_spare q l (back q refl z)
 
-pub ordered-arranged : (nodes edges : ℕ) (from to count order : List ℕ) → nodes ≤ 512 → nodes ≤ length order → Ordered nodes edges from to count order → Arranged order nodes
-ordered-arranged nodes edges from to count order few rows s = record {
+pub ordered_arranged : (nodes edges : ℕ) (from to count order : List ℕ) → nodes ≤ 512 → nodes ≤ length order → Ordered nodes edges from to count order → Arranged order nodes
+ordered_arranged nodes edges from to count order few rows s = record {
   few = few;
   rows = rows;
-  nodes-only = s.nodes-only;
-  every-node = s.every-node;
-  once = λ p q h l. place-once order nodes s.every-node p q h l (s.nodes-only q l);
+  nodes_only = s.nodes_only;
+  every_node = s.every_node;
+  once = λ p q h l. place_once order nodes s.every_node p q h l (s.nodes_only q l);
 }

@@ -7,12 +7,12 @@ use mathlib.Core.Path.{◌≡◌, sym, ap, ap₂, ◌∙◌}
 use mathlib.Core.Bool.{Bool, true, false}
 use mathlib.Core.List.{List}
 use Rattle.theory.specs.Move.{digit}
-use Rattle.theory.proofs.numbers.Sums.{sum_more, sum-grows}
+use Rattle.theory.proofs.numbers.Sums.{sum_more, sum_grows}
 use Rattle.graph.specs.Columns.{at}
 use Rattle.netlist.specs.declared.Netlist.{Netlist}
-use Rattle.netlist.specs.Circuit.{choiceAt}
+use Rattle.netlist.specs.Circuit.{choice_at}
 use Rattle.moves.specs.Moved.{word_of}
-use Rattle.moves.specs.inner.Labels.{lagsOf, chosenAt}
+use Rattle.moves.specs.inner.Labels.{lags_of, chosen_at}
 use Rattle.moves.specs.inner.Moving.{Choosing}
 use Rattle.moves.specs.inner.Chosen.{EdgeWords}
 use Rattle.choose.specs.inner.Wires.{Chooses}
@@ -20,19 +20,19 @@ use Rattle.choose.specs.inner.Chosen.{Rises, RunWords, Chosen}
 use Rattle.choose.proofs.Right.{size}
 
 module _ {net : Netlist} {lab counts base : List ℕ} {k : ℕ} (ch : Choosing net lab counts base k) where
-  base_step : (e : ℕ) → e + 1 ≤ net.edges → at base (e + 1) ≡ at base e + chosenAt net lab e
-  base_step e h = ch.based (e + 1) h ∙ sum_more (chosenAt net lab) e ∙ ap (λ b. b + chosenAt net lab e) (sym (ch.based e (omega arith)))
+  base_step : (e : ℕ) → e + 1 ≤ net.edges → at base (e + 1) ≡ at base e + chosen_at net lab e
+  base_step e h = ch.based (e + 1) h ∙ sum_more (chosen_at net lab) e ∙ ap (λ b. b + chosen_at net lab e) (sym (ch.based e (omega arith)))
 
   pub rises : Rises base net.edges k
   rises e h =
-      (omega (arith, base_step e (omega arith)), omega (arith, ch.based (e + 1) (omega arith), size ch, sum-grows (chosenAt net lab) (e + 1) net.edges (omega arith)))
+      (omega (arith, base_step e (omega arith)), omega (arith, ch.based (e + 1) (omega arith), size ch, sum_grows (chosen_at net lab) (e + 1) net.edges (omega arith)))
 
-  run-words : (c : ℕ) (words : List ℕ) → RunWords c k base net.edges words → EdgeWords net (lagsOf lab) c words
-  run-words c words w e h =
+  run_words : (c : ℕ) (words : List ℕ) → RunWords c k base net.edges words → EdgeWords net (lags_of lab) c words
+  run_words c words w e h =
       w e h
       ∙ ap₂ (λ n b. word_of (λ t. digit n c (b + t)) (at base (e + 1) - at base e)) (size ch) (ch.based e (omega arith))
-      ∙ ap (word_of (choiceAt net (lagsOf lab) c e)) (let z : at base (e + 1) - at base e ≡ chosenAt net lab e = omega (arith, base_step e (omega arith)) in z)
+      ∙ ap (word_of (choice_at net (lags_of lab) c e)) (let z : at base (e + 1) - at base e ≡ chosen_at net lab e = omega (arith, base_step e (omega arith)) in z)
 
-  pub chosen : (found : Bool) (c : ℕ) (words : List ℕ) → Chooses net (lagsOf lab) found c → RunWords c k base net.edges words → Chosen net (lagsOf lab) found words
-  chosen true c words b w = record { number = c; best = b; its-words = run-words c words w }
+  pub chosen : (found : Bool) (c : ℕ) (words : List ℕ) → Chooses net (lags_of lab) found c → RunWords c k base net.edges words → Chosen net (lags_of lab) found words
+  chosen true c words b w = record { number = c; best = b; its_words = run_words c words w }
   chosen false c words n w = n

@@ -7,10 +7,10 @@ use mathlib.Core.List.{List}
 use lib.ListN.{length, take, drop, length-take}
 use lib.Seq.{get_or-take, get_or-drop}
 use Rattle.graph.specs.Columns.{at}
-use Rattle.search.specs.inner.Program.{operandsOf}
+use Rattle.search.specs.inner.Program.{operands_of}
 
-pub operand_at : (first operand : List ℕ) (i p : ℕ) → p < length (operandsOf first operand i)
-    → (at first i + p < at first (suc i)) × (at operand (at first i + p) ≡ at (operandsOf first operand i) p)
+pub operand_at : (first operand : List ℕ) (i p : ℕ) → p < length (operands_of first operand i)
+    → (at first i + p < at first (suc i)) × (at operand (at first i + p) ≡ at (operands_of first operand i) p)
 operand_at first operand i p h =
     let n = at first (suc i) - at first i in
     let rest = drop (at first i) operand in

@@ -1,9 +1,9 @@
 -- Dues one by one: runs of clocks, and in a run edge by edge.
 --   rows_none, rows_more    one run further: how many rows there are
---   dues-none, run-begins, run_ends     a run of clocks begins, and ends
---   few-appended        of one edge no more is put than the run has clocks
+--   dues_none, run_begins, run_ends     a run of clocks begins, and ends
+--   few_appended        of one edge no more is put than the run has clocks
 --   run_room            the room that one more edge takes
---   dues-more           one edge further
+--   dues_more           one edge further
 use Prim.Native.Nat.{ℕ, suc, ◌+◌, ◌*◌, ◌-◌, ◌≤◌, ◌<◌, min}
 use native.Mathlib.Omega.{arith}
 use native.Mathlib.Nat.{suc-mul, mul-le-mul_right}
@@ -17,28 +17,28 @@ use Rattle.graph.specs.Columns.{at, bit}
 use Rattle.graph.specs.inner.Sort.{Stands}
 use Rattle.netlist.specs.declared.Netlist.{Netlist}
 use Rattle.graph.specs.inner.Lists.{Appended}
-use Rattle.choose.specs.inner.Dues.{cell_at, Carry, dueOf, Owed, due_at, DuesTo, FewRows}
+use Rattle.choose.specs.inner.Dues.{cell_at, Carry, due_of, Owed, due_at, DuesTo, FewRows}
 
 pub rows_none : FewRows 0 0
-rows_none = record { at-0 = λ l. omega arith; to-1 = λ l. omega arith; to-3 = λ l. omega arith; to-7 = λ l. omega arith; to-15 = λ l. omega arith; to-24 = omega arith }
+rows_none = record { at_0 = λ l. omega arith; to_1 = λ l. omega arith; to_3 = λ l. omega arith; to_7 = λ l. omega arith; to_15 = λ l. omega arith; to_24 = omega arith }
 
 pub rows_more : (low high rows edges more : ℕ) → low < 24 → edges ≤ 1024 → high ≡ min (2 * low + 1) 24 → more ≤ rows + edges → FewRows low rows → FewRows high more
 rows_more low high rows edges more h few q up r = record {
-  at-0 = λ l. absurd (let z : ⊥ = omega arith in z);
-  to-1 = λ l. omega (arith, r.at-0 (omega arith));
-  to-3 = λ l. omega (arith, r.to-1 (omega arith));
-  to-7 = λ l. omega (arith, r.to-3 (omega arith));
-  to-15 = λ l. omega (arith, r.to-7 (omega arith));
-  to-24 = omega (arith, r.to-15 h);
+  at_0 = λ l. absurd (let z : ⊥ = omega arith in z);
+  to_1 = λ l. omega (arith, r.at_0 (omega arith));
+  to_3 = λ l. omega (arith, r.to_1 (omega arith));
+  to_7 = λ l. omega (arith, r.to_3 (omega arith));
+  to_15 = λ l. omega (arith, r.to_7 (omega arith));
+  to_24 = omega (arith, r.to_15 h);
 }
 
 -- Of one edge no more is put than the run has clocks.
-pub few-appended : (w l low high n r : ℕ) → low ≤ high → r ≡ n + (min w (w + high - l) - (w + low - l)) → r + low ≤ n + high
-few-appended w l low high n r up q = omega arith
+pub few_appended : (w l low high n r : ℕ) → low ≤ high → r ≡ n + (min w (w + high - l) - (w + low - l)) → r + low ≤ n + high
+few_appended w l low high n r up q = omega arith
 
 module _ (net : Netlist) (lag : ℕ → ℕ) (id along : List ℕ) where
-  pub dues-none : (due begin : List ℕ) → at begin 0 ≡ 0 → DuesTo net lag id along 0 0 0 0 due begin (at begin 0)
-  dues-none due begin q = record {
+  pub dues_none : (due begin : List ℕ) → at begin 0 ≡ 0 → DuesTo net lag id along 0 0 0 0 due begin (at begin 0)
+  dues_none due begin q = record {
     none = q;
     rising = λ e h. absurd (let z : ⊥ = omega arith in z);
     last = refl;
@@ -49,8 +49,8 @@ module _ (net : Netlist) (lag : ℕ → ℕ) (id along : List ℕ) where
 
   -- A run begins, and ends.
   module _ (low high rows total : ℕ) (due begin : List ℕ) where
-    pub run-begins : DuesTo net lag id along low low 0 rows due begin total → DuesTo net lag id along low high 0 rows due begin total
-    run-begins d = record {
+    pub run_begins : DuesTo net lag id along low low 0 rows due begin total → DuesTo net lag id along low high 0 rows due begin total
+    run_begins d = record {
       none = d.none;
       rising = d.rising;
       last = d.last;
@@ -89,21 +89,21 @@ module _ (net : Netlist) (lag : ℕ → ℕ) (id along : List ℕ) where
     unfolding e
     carry s h k = record { edge = edge; old = omega arith; clock = omega (arith, ap lag from) }
 
-    clock-is : (s t : ℕ) → low ≤ t → t < high → Carry net lag e s t → (lo ≤ s) × (s < hi) × (t ≡ s + l - w)
+    clock_is : (s t : ℕ) → low ≤ t → t < high → Carry net lag e s t → (lo ≤ s) × (s < hi) × (t ≡ s + l - w)
     unfolding e
-    clock-is s t h k c = (omega (arith, c.clock, ap lag from), omega (arith, c.old, c.clock, ap lag from), omega (arith, c.clock, ap lag from))
+    clock_is s t h k c = (omega (arith, c.clock, ap lag from), omega (arith, c.old, c.clock, ap lag from), omega (arith, c.clock, ap lag from))
 
-    due-is : (s t : ℕ) → t ≡ s + l - w → due_at id v l w (at net.start e) s ≡ dueOf net (cell_at id) e s t
+    due_is : (s t : ℕ) → t ≡ s + l - w → due_at id v l w (at net.start e) s ≡ due_of net (cell_at id) e s t
     unfolding e
-    due-is s t q = ap₂ (λ u x. cell_at id u x * 2 + bit (at net.start e) s) (sym from) (sym q)
+    due_is s t q = ap₂ (λ u x. cell_at id u x * 2 + bit (at net.start e) s) (sym from) (sym q)
 
     rise : m + low ≤ total + high
-    rise = few-appended w l low high total m up (next ∙ ap₂ (λ x y. total + (x - y)) hi-is lo-is)
+    rise = few_appended w l low high total m up (next ∙ ap₂ (λ x y. total + (x - y)) hi-is lo-is)
 
-    sound-new : (x : ℕ) → x < m → Dec (x < total) → Owed net lag (cell_at id) (at due' x)
+    sound_new : (x : ℕ) → x < m → Dec (x < total) → Owed net lag (cell_at id) (at due' x)
     unfolding e
-    sound-new x h (yes y) = subst (Owed net lag (cell_at id)) (sym (a.kept x y)) (d.sound x y)
-    sound-new x h (no y) =
+    sound_new x h (yes y) = subst (Owed net lag (cell_at id)) (sym (a.kept x y)) (d.sound x y)
+    sound_new x h (no y) =
         let k = x - total in
         let s = lo + k in
         let b : s < hi = omega (arith, next) in
@@ -112,29 +112,29 @@ module _ (net : Netlist) (lag : ℕ → ℕ) (id along : List ℕ) where
           old = s;
           clock = s + l - w;
           carry = carry s (omega arith) b;
-          is = ap (at due') (let z : x ≡ total + k = omega arith in z) ∙ a.added k b ∙ due-is s (s + l - w) refl;
+          is = ap (at due') (let z : x ≡ total + k = omega arith in z) ∙ a.added k b ∙ due_is s (s + l - w) refl;
         }
 
-    kept-due : (x : ℕ) → Stands due total x → Stands due' m x
-    kept-due x o = record { place = o.place; within = omega (arith, o.within, next); holds = a.kept o.place o.within ∙ o.holds }
+    kept_due : (x : ℕ) → Stands due total x → Stands due' m x
+    kept_due x o = record { place = o.place; within = omega (arith, o.within, next); holds = a.kept o.place o.within ∙ o.holds }
 
-    complete-here : (s t : ℕ) → t < high → Dec (t < low) → Carry net lag e s t → Stands due' m (dueOf net (cell_at id) e s t)
+    complete_here : (s t : ℕ) → t < high → Dec (t < low) → Carry net lag e s t → Stands due' m (due_of net (cell_at id) e s t)
     unfolding e
-    complete-here s t h (yes y) c = kept-due _ (d.complete n s t place h (λ x. y) c)
-    complete-here s t h (no y) c =
-        let (b, u, q) = clock-is s t (omega arith) h c in
+    complete_here s t h (yes y) c = kept_due _ (d.complete n s t place h (λ x. y) c)
+    complete_here s t h (no y) c =
+        let (b, u, q) = clock_is s t (omega arith) h c in
         let k = s - lo in
         let z : lo + k ≡ s = omega arith in
-        record { place = total + k; within = omega (arith, next); holds = a.added k (omega arith) ∙ ap (due_at id v l w (at net.start e)) z ∙ due-is s t q }
+        record { place = total + k; within = omega (arith, next); holds = a.added k (omega arith) ∙ ap (due_at id v l w (at net.start e)) z ∙ due_is s t q }
 
-    complete-new : (j s t : ℕ) → j < net.edges → t < high → (n + 1 ≤ j → t < low) → Dec (j ≡ n) → Carry net lag (at along j) s t → Stands due' m (dueOf net (cell_at id) (at along j) s t)
+    complete_new : (j s t : ℕ) → j < net.edges → t < high → (n + 1 ≤ j → t < low) → Dec (j ≡ n) → Carry net lag (at along j) s t → Stands due' m (due_of net (cell_at id) (at along j) s t)
     unfolding e
-    complete-new j s t h u k (yes y) =
-        subst (λ f. Carry net lag f s t → Stands due' m (dueOf net (cell_at id) f s t)) (ap (at along) (sym y)) (complete-here s t u (dec_lt t low))
-    complete-new j s t h u k (no y) = λ c. kept-due _ (d.complete j s t h u (λ x. k (omega arith)) c)
+    complete_new j s t h u k (yes y) =
+        subst (λ f. Carry net lag f s t → Stands due' m (due_of net (cell_at id) f s t)) (ap (at along) (sym y)) (complete_here s t u (dec_lt t low))
+    complete_new j s t h u k (no y) = λ c. kept_due _ (d.complete j s t h u (λ x. k (omega arith)) c)
 
-    few-new : m ≤ 1024 * low + (n + 1) * (high - low)
-    few-new = omega (arith, d.few, rise, suc-mul n (high - low), ap (λ x. x * (high - low)) (add-one n))
+    few_new : m ≤ 1024 * low + (n + 1) * (high - low)
+    few_new = omega (arith, d.few, rise, suc-mul n (high - low), ap (λ x. x * (high - low)) (add-one n))
 
     no_row : m ≤ total → DuesTo net lag id along low high (n + 1) rows due' begin total
     no_row h =
@@ -143,9 +143,9 @@ module _ (net : Netlist) (lag : ℕ → ℕ) (id along : List ℕ) where
           none = d.none;
           rising = d.rising;
           last = d.last;
-          few = omega (arith, few-new);
-          sound = λ x l. sound-new x (omega arith) (dec_lt x total);
-          complete = λ j s t l u k c. subst (λ y. Stands due' y (dueOf net (cell_at id) (at along j) s t)) q (complete-new j s t l u k (ℕ_discrete j n) c);
+          few = omega (arith, few_new);
+          sound = λ x l. sound_new x (omega arith) (dec_lt x total);
+          complete = λ j s t l u k c. subst (λ y. Stands due' y (due_of net (cell_at id) (at along j) s t)) q (complete_new j s t l u k (ℕ_discrete j n) c);
         }
 
     row_more : (begin' : List ℕ) → ((i : ℕ) → i < rows + 1 → at begin' i ≡ at begin i) → at begin' (rows + 1) ≡ m → total < m
@@ -154,9 +154,9 @@ module _ (net : Netlist) (lag : ℕ → ℕ) (id along : List ℕ) where
       none = other 0 (omega arith) ∙ d.none;
       rising = λ i h. go i h (ℕ_discrete i rows);
       last = here;
-      few = few-new;
-      sound = λ x h. sound-new x h (dec_lt x total);
-      complete = λ j s t h u k. complete-new j s t h u k (ℕ_discrete j n);
+      few = few_new;
+      sound = λ x h. sound_new x h (dec_lt x total);
+      complete = λ j s t h u k. complete_new j s t h u k (ℕ_discrete j n);
     }
       where
         go : (i : ℕ) → i < rows + 1 → Dec (i ≡ rows) → (at begin' i < at begin' (suc i)) × (at begin' (suc i) ≤ at begin' i + 24)
@@ -167,6 +167,6 @@ module _ (net : Netlist) (lag : ℕ → ℕ) (id along : List ℕ) where
         go i h (no y) = let r = d.rising i (omega arith) in let p = other i h in let q = other (suc i) (omega arith) in (omega (arith, r.0), omega (arith, r.1))
 
     -- Nothing of it is due in this run, and no row begins; or a row does.
-    pub dues-more : (m ≤ total → DuesTo net lag id along low high (n + 1) rows due' begin total)
+    pub dues_more : (m ≤ total → DuesTo net lag id along low high (n + 1) rows due' begin total)
         × (total < m → rows + 1 < length begin → DuesTo net lag id along low high (n + 1) (rows + 1) due' (set begin (rows + 1) m) m)
-    dues-more = (no_row, λ more room. row_more _ (λ i h. get_or-set_other begin (rows + 1) i m 0 (let z : ¬ (i ≡ rows + 1) = λ y. omega arith in z)) (get_or-set_same begin (rows + 1) m 0 room) more)
+    dues_more = (no_row, λ more room. row_more _ (λ i h. get_or-set_other begin (rows + 1) i m 0 (let z : ¬ (i ≡ rows + 1) = λ y. omega arith in z)) (get_or-set_same begin (rows + 1) m 0 room) more)

@@ -4,8 +4,8 @@ ghost use Rattle.std.specs.Prelude.{◌≡◌, cond, ℕ, ◌+◌, ◌*◌, ◌-
 ghost use Rattle.theory.specs.Move.{sum};
 ghost use Rattle.graph.specs.Columns.{at};
 ghost use Rattle.graph.specs.inner.Lists.{Appended};
-ghost use Rattle.choose.specs.inner.Numbers.{lagAt, LagsBelow, Arranged, CellsNumbered};
-ghost use Rattle.choose.specs.inner.Sources.{sourceAt, SourceRows, width_at, OperandRows, Operands};
+ghost use Rattle.choose.specs.inner.Numbers.{lag_at, LagsBelow, Arranged, CellsNumbered};
+ghost use Rattle.choose.specs.inner.Sources.{source_at, SourceRows, width_at, OperandRows, Operands};
 ghost use Rattle.moves.specs.inner.Labels.{Labelled, Counts};
 ghost use Rattle.graph.specs.inner.Sort.{Ordered};
 ghost use Rattle.netlist.specs.Circuit.{LoopIn};
@@ -33,9 +33,9 @@ fn number_clock(
     code: &mut [u16],
 ) -> usize
     requires arranged { Arranged order.now nodes × (nodes ≤ length lab.now) × (t < 24) }
-    requires by_index { (v : ℕ) → v < nodes → lagAt lab.now v ≤ 24 }
-    requires cells_numbered { CellsNumbered (lagAt lab.now) order.now nodes t 0 start id.old code.old }
-    ensures { CellsNumbered (lagAt lab.now) order.now nodes t nodes result id.new code.new }
+    requires by_index { (v : ℕ) → v < nodes → lag_at lab.now v ≤ 24 }
+    requires cells_numbered { CellsNumbered (lag_at lab.now) order.now nodes t 0 start id.old code.old }
+    ensures { CellsNumbered (lag_at lab.now) order.now nodes t nodes result id.new code.new }
 {
     let clock = t as u32;
     let mut n = start;
@@ -64,7 +64,7 @@ pub fn number_cells(
 ) -> usize
     requires arranged { Arranged order.now nodes × (nodes ≤ length lab.now) × LagsBelow lab.now nodes clocks }
     requires id_len { (length id.old ≡ 16384) × (length code.old ≡ 12288) }
-    ensures { CellsNumbered (lagAt lab.now) order.now nodes 24 0 result id.new code.new }
+    ensures { CellsNumbered (lag_at lab.now) order.now nodes 24 0 result id.new code.new }
 {
     let mut n = 0;
     let mut t = 0;
@@ -119,7 +119,7 @@ fn append_sources(
     requires lo_le_hi { (lo ≤ hi) × (hi ≤ length ins.now) × (start + hi ≤ lo + length operand.old) × (t < 32) × (length id.now ≡ 16384) }
     requires by_index { (k : ℕ) → k < hi → lo ≤ k → SourceRows from.now counts.now base.now id.now t (at ins.now k) }
     ensures lo_value { result + lo ≡ start + hi }
-    ensures appended { Appended (λ k. sourceAt from.now counts.now base.now id.now t (at ins.now k)) operand.old operand.new lo hi start }
+    ensures appended { Appended (λ k. source_at from.now counts.now base.now id.now t (at ins.now k)) operand.old operand.new lo hi start }
 {
     let mut n = start;
     let mut k = lo;

@@ -2,7 +2,7 @@
 // Retiming comes here with the labels of the least retiming.
 ghost use Rattle.std.specs.Prelude.{◌≡◌, true, ◌≤◌, length};
 ghost use Rattle.graph.specs.Columns.{at};
-ghost use Rattle.moves.specs.inner.Labels.{lagsOf};
+ghost use Rattle.moves.specs.inner.Labels.{lags_of};
 ghost use Rattle.moves.specs.inner.Moving.{Choosing};
 ghost use Rattle.choose.specs.inner.Numbers.{LagsBelow};
 ghost use Rattle.choose.specs.inner.Wires.{Chooses, Wirable, Wires, Standing};
@@ -64,7 +64,7 @@ fn compile(
 ) -> Compiled
     requires choosing { Choosing net lab.now counts.now base.now (at base.now net.edges) × LagsBelow lab.now net.nodes clocks }
     requires kind_len { (length kind.old ≡ 12288) × (length first.old ≡ 12289) × (length operand.old ≡ 24576) × (length due.old ≡ 24576) × (length begin.old ≡ 5121) }
-    ensures { Standing net (lagsOf lab.now) (at base.now net.edges) result.cells result.rows kind.new first.new operand.new due.new begin.new }
+    ensures { Standing net (lags_of lab.now) (at base.now net.edges) result.cells result.rows kind.new first.new operand.new due.new begin.new }
 {
     let order = order_of(net, lab, counts);
     let mut id = [0u16; CODES];
@@ -86,7 +86,7 @@ fn searched(
     clocks: usize,
 ) -> search::Choice
     requires { Choosing net lab.now counts.now base.now k × LagsBelow lab.now net.nodes clocks }
-    ensures { Chooses net (lagsOf lab.now) result.found result.choice }
+    ensures { Chooses net (lags_of lab.now) result.found result.choice }
 {
     let mut kind = [0u8; CELLS];
     let mut first = [0u16; CELLS + 1];
@@ -134,7 +134,7 @@ fn below_two(lab: &[u32], nodes: usize) -> bool
 // The search is called at two places, so that its columns stand in a frame of their own: a frame is touched page by page when its function is entered.
 fn best(net: Netlist, lab: &[u32], counts: &[u32], base: &[u32], k: u32) -> search::Choice
     requires { Choosing net lab.now counts.now base.now k }
-    ensures { Chooses net (lagsOf lab.now) result.found result.choice }
+    ensures { Chooses net (lags_of lab.now) result.found result.choice }
 {
     if k == 0 {
         return search::Choice {
@@ -151,7 +151,7 @@ fn best(net: Netlist, lab: &[u32], counts: &[u32], base: &[u32], k: u32) -> sear
 // The chosen start values: those of the best choice that carries the start.
 pub fn choose(net: Netlist, lab: &[u32], counts: &[u32], base: &[u32], k: u32) -> Choice
     requires { Choosing net lab.now counts.now base.now k }
-    ensures { Chosen net (lagsOf lab.now) result.found result.words }
+    ensures { Chosen net (lags_of lab.now) result.found result.words }
 {
     let edges = net.edges as usize;
     let c = best(net, lab, counts, base, k);

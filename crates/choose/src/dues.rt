@@ -5,7 +5,7 @@ ghost use Rattle.graph.specs.Columns.{at};
 ghost use Rattle.graph.specs.inner.Sort.{EachEdge};
 ghost use Rattle.search.specs.inner.Program.{Owes};
 ghost use Rattle.moves.specs.inner.Labels.{Labelled};
-ghost use Rattle.choose.specs.inner.Numbers.{lagAt, LagsBelow, Arranged};
+ghost use Rattle.choose.specs.inner.Numbers.{lag_at, LagsBelow, Arranged};
 ghost use Rattle.graph.specs.inner.Lists.{Appended};
 ghost use Rattle.choose.specs.inner.Dues.{cell_at, Dues, due_at, Celled, DuesTo};
 
@@ -87,11 +87,11 @@ fn put_run(
     due: &mut [u16],
     begin: &mut [u16],
 ) -> usize
-    requires labelled { Labelled net lab.now × EachEdge along.now net.edges × Celled (lagAt lab.now) net.nodes 12288 id.now }
+    requires labelled { Labelled net lab.now × EachEdge along.now net.edges × Celled (lag_at lab.now) net.nodes 12288 id.now }
     requires low_le_high { (low ≤ high) × (high ≤ 24) × (before ≤ 4096) × (length along.now ≡ 1024) × (length due.old ≡ 24576) × (length begin.old ≡ 5121) }
-    requires dues_to { DuesTo net (lagAt lab.now) id.now along.now low low 0 before due.old begin.old (at begin.old before) }
+    requires dues_to { DuesTo net (lag_at lab.now) id.now along.now low low 0 before due.old begin.old (at begin.old before) }
     ensures upper_bound { result ≤ before + net.edges }
-    ensures dues_to_2 { DuesTo net (lagAt lab.now) id.now along.now high high 0 result due.new begin.new (at begin.new result) }
+    ensures dues_to_2 { DuesTo net (lag_at lab.now) id.now along.now high high 0 result due.new begin.new (at begin.new result) }
 {
     let edges = net.edges as usize;
     let mut rows = before;
@@ -124,10 +124,10 @@ pub fn dues_of(
     due: &mut [u16],
     begin: &mut [u16],
 ) -> usize
-    requires labelled { Labelled net lab.now × Arranged order.now net.nodes × Celled (lagAt lab.now) net.nodes 12288 id.now }
+    requires labelled { Labelled net lab.now × Arranged order.now net.nodes × Celled (lag_at lab.now) net.nodes 12288 id.now }
     requires due_len { (length due.old ≡ 24576) × (length begin.old ≡ 5121) }
     ensures owes { Owes 12288 due.new begin.new result }
-    ensures dues { Dues net (lagAt lab.now) (cell_at id.now) due.new (at begin.new result) }
+    ensures dues { Dues net (lag_at lab.now) (cell_at id.now) due.new (at begin.new result) }
 {
     let nodes = net.nodes as usize;
     let edges = net.edges as usize;

@@ -2,7 +2,7 @@
 // Private to the crate: `choose` puts them together.
 ghost use Rattle.std.specs.Prelude.{◌≡◌, ◌≤◌, ◌<◌, length};
 ghost use Rattle.theory.specs.Move.{digit};
-ghost use Rattle.choose.specs.inner.Chosen.{runWord, Rises, RunWords};
+ghost use Rattle.choose.specs.inner.Chosen.{run_word, Rises, RunWords};
 
 use graph::EDGES;
 use moves::put_bit;
@@ -18,7 +18,7 @@ fn chosen_bit(choice: u32, k: u32, x: u32) -> u32
 // The values of a choice from value `start` up to `end`, as a word: the first one lowest.
 fn chosen_word(choice: u32, k: u32, start: u32, end: u32) -> u32
     requires { (start ≤ end) × (end ≤ k) × (k ≤ 24) }
-    ensures { result ≡ runWord choice k start end }
+    ensures { result ≡ run_word choice k start end }
 {
     let n = end - start;
     let mut word = 0;

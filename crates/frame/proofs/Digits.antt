@@ -1,12 +1,12 @@
 -- Digits, and bytes of two digits.
 --   clash                        two constructors are never equal: `clash (cc)`
---   within-true                  a test that holds
---   digit_char, char-digit       a digit reads as its value, and is written from it
---   char-small, digit-most       a digit is a byte; a value is at most 16
---   Entered d table              the table of the digits below d; entered-none, entered-more, entered_all
---   digits a b, digits-true      both are digits
---   byte-good, byte-digits       a byte's value where both are digits; below 256 only there
---   byte-hex, byte-written       a byte is written with the digits that it is read from, and read from those that it is written with
+--   within_true                  a test that holds
+--   digit_char, char_digit       a digit reads as its value, and is written from it
+--   char_small, digit_most       a digit is a byte; a value is at most 16
+--   Entered d table              the table of the digits below d; entered_none, entered_more, entered_all
+--   digits a b, digits_true      both are digits
+--   byte_good, byte_digits       a byte's value where both are digits; below 256 only there
+--   byte_hex, byte_written       a byte is written with the digits that it is read from, and read from those that it is written with
 use mathlib.Core.Path.{◌≡◌, refl, ap, sym, ◌∙◌}
 use mathlib.Core.Bool.{Bool, true, false, cond}
 use mathlib.Core.List.{List, [], ◌∷◌}
@@ -17,53 +17,53 @@ use lib.Dec.{ltb, leb}
 use lib.ListN.{length, get_or, set, replicate, length-set, get_or-replicate}
 use lib.Seq.{get_or-set_same, get_or-set_other}
 use borrow.Author.Tests.{ltb-true, leb-true, lt-ltb, le-ltb, le-leb, lt-leb}
-use Rattle.frame.specs.Frame.{within, digitOf, charOf, hexOf}
+use Rattle.frame.specs.Frame.{within, digit_of, char_of, hex_of}
 use Rattle.frame.specs.inner.Decoded.{Digits, pair_of}
 
 pub clash : {A : Type 0} → ◌≡◌ {A = ℕ} 0 1 → A
 clash e = absurd (omega arith)
 
-pub within-true : (low high x : ℕ) → within low high x ≡ true → (low ≤ x) × (x ≤ high)
-within-true low high x e = go (leb low x) refl e
+pub within_true : (low high x : ℕ) → within low high x ≡ true → (low ≤ x) × (x ≤ high)
+within_true low high x e = go (leb low x) refl e
   where
     go : (t : Bool) → leb low x ≡ t → cond t (leb x high) false ≡ true → (low ≤ x) × (x ≤ high)
     go true p q = (leb-true low x p, leb-true x high q)
     go false p q = clash (cc)
 
-pub char-digit : (c : ℕ) → digitOf c < 16 → charOf (digitOf c) ≡ c
-unfolding digitOf charOf
-char-digit c h = go (within 48 57 c) (within 65 70 c) refl refl h
+pub char_digit : (c : ℕ) → digit_of c < 16 → char_of (digit_of c) ≡ c
+unfolding digit_of char_of
+char_digit c h = go (within 48 57 c) (within 65 70 c) refl refl h
   where
-    go : (s t : Bool) → within 48 57 c ≡ s → within 65 70 c ≡ t → cond s (c - 48) (cond t (c - 55) 16) < 16 → charOf (cond s (c - 48) (cond t (c - 55) 16)) ≡ c
-    go true t p q h = let w = within-true 48 57 c p in rw (lt-ltb (c - 48) 10 (omega arith)) (omega arith)
-    go false true p q h = let w = within-true 65 70 c q in rw (le-ltb (c - 55) 10 (omega arith)) (omega arith)
+    go : (s t : Bool) → within 48 57 c ≡ s → within 65 70 c ≡ t → cond s (c - 48) (cond t (c - 55) 16) < 16 → char_of (cond s (c - 48) (cond t (c - 55) 16)) ≡ c
+    go true t p q h = let w = within_true 48 57 c p in rw (lt-ltb (c - 48) 10 (omega arith)) (omega arith)
+    go false true p q h = let w = within_true 65 70 c q in rw (le-ltb (c - 55) 10 (omega arith)) (omega arith)
     go false false p q h = absurd (omega arith)
 
-pub digit_char : (d : ℕ) → d < 16 → digitOf (charOf d) ≡ d
-unfolding digitOf charOf
+pub digit_char : (d : ℕ) → d < 16 → digit_of (char_of d) ≡ d
+unfolding digit_of char_of
 digit_char d h = go (dec_lt d 10)
   where
-    go : Dec (d < 10) → digitOf (charOf d) ≡ d
+    go : Dec (d < 10) → digit_of (char_of d) ≡ d
     go (yes l) = rw (lt-ltb d 10 l, le-leb 48 (d + 48) (omega arith), le-leb (d + 48) 57 (omega arith)) (omega arith)
     go (no l) =
         let g : 10 ≤ d = omega arith in
         rw (le-ltb d 10 g, lt-leb (d + 55) 57 (omega arith), le-leb 48 (d + 55) (omega arith), le-leb 65 (d + 55) (omega arith), le-leb (d + 55) 70 (omega arith)) (omega arith)
 
-char-small : (d : ℕ) → d < 16 → charOf d < 256
-unfolding charOf
-char-small d h = go (ltb d 10)
+char_small : (d : ℕ) → d < 16 → char_of d < 256
+unfolding char_of
+char_small d h = go (ltb d 10)
   where
     go : (t : Bool) → cond t (d + 48) (d + 55) < 256
     go true = omega arith
     go false = omega arith
 
-digit-most : (c : ℕ) → digitOf c ≤ 16
-unfolding digitOf
-digit-most c = go (within 48 57 c) (within 65 70 c) refl refl
+digit_most : (c : ℕ) → digit_of c ≤ 16
+unfolding digit_of
+digit_most c = go (within 48 57 c) (within 65 70 c) refl refl
   where
     go : (s t : Bool) → within 48 57 c ≡ s → within 65 70 c ≡ t → cond s (c - 48) (cond t (c - 55) 16) ≤ 16
-    go true t p q = omega (arith, within-true 48 57 c p)
-    go false true p q = omega (arith, within-true 65 70 c q)
+    go true t p q = omega (arith, within_true 48 57 c p)
+    go false true p q = omega (arith, within_true 65 70 c q)
     go false false p q = omega arith
 
 -- ── The table of digits ─────────────────────────────────────────────────────────────────────
@@ -71,11 +71,11 @@ digit-most c = go (within 48 57 c) (within 65 70 c) refl refl
 -- Each digit below d stands at its byte; every other byte has 16.
 pub record Entered (d : ℕ) (table : List ℕ) : Type 0 where
   pub size : length table ≡ 256
-  pub values : (c : ℕ) → c < 256 → digitOf c < d → get_or table c 0 ≡ digitOf c
-  pub others : (c : ℕ) → c < 256 → d ≤ digitOf c → get_or table c 0 ≡ 16
+  pub values : (c : ℕ) → c < 256 → digit_of c < d → get_or table c 0 ≡ digit_of c
+  pub others : (c : ℕ) → c < 256 → d ≤ digit_of c → get_or table c 0 ≡ 16
 
-pub entered-none : Entered 0 (replicate 256 16)
-entered-none =
+pub entered_none : Entered 0 (replicate 256 16)
+entered_none =
     record {
       size = refl;
       values = λ c h l. absurd (let z : ⊥ = omega arith in z);
@@ -83,70 +83,70 @@ entered-none =
     }
 
 module _ (d : ℕ) (table : List ℕ) (e : Entered d table) where
-  pub entered-more : d < 16 → Entered (d + 1) (set table (charOf d) d)
-  entered-more h =
+  pub entered_more : d < 16 → Entered (d + 1) (set table (char_of d) d)
+  entered_more h =
       record {
-        size = length-set table (charOf d) d ∙ e.size;
-        values = λ c b l. go c b (ℕ_discrete c (charOf d)) l;
-        others = λ c b l. get_or-set_other table (charOf d) c d 0 (λ q. let z = here c q in let w : ⊥ = omega arith in w) ∙ e.others c b (omega arith);
+        size = length-set table (char_of d) d ∙ e.size;
+        values = λ c b l. go c b (ℕ_discrete c (char_of d)) l;
+        others = λ c b l. get_or-set_other table (char_of d) c d 0 (λ q. let z = here c q in let w : ⊥ = omega arith in w) ∙ e.others c b (omega arith);
       }
     where
       -- The byte of d is a digit, of value d.
-      here : (c : ℕ) → c ≡ charOf d → digitOf c ≡ d
-      here c q = ap digitOf q ∙ digit_char d h
+      here : (c : ℕ) → c ≡ char_of d → digit_of c ≡ d
+      here c q = ap digit_of q ∙ digit_char d h
 
-      go : (c : ℕ) → c < 256 → Dec (c ≡ charOf d) → digitOf c < d + 1 → get_or (set table (charOf d) d) c 0 ≡ digitOf c
-      go c b (yes q) l = ap (λ x. get_or (set table (charOf d) d) x 0) q ∙ get_or-set_same table (charOf d) d 0 (omega (arith, e.size, char-small d h)) ∙ sym (here c q)
+      go : (c : ℕ) → c < 256 → Dec (c ≡ char_of d) → digit_of c < d + 1 → get_or (set table (char_of d) d) c 0 ≡ digit_of c
+      go c b (yes q) l = ap (λ x. get_or (set table (char_of d) d) x 0) q ∙ get_or-set_same table (char_of d) d 0 (omega (arith, e.size, char_small d h)) ∙ sym (here c q)
       go c b (no q) l =
-          let other : digitOf c ≡ d → ⊥ = λ f. q (sym (char-digit c (omega arith)) ∙ ap charOf f) in
-          get_or-set_other table (charOf d) c d 0 q ∙ e.values c b (omega arith)
+          let other : digit_of c ≡ d → ⊥ = λ f. q (sym (char_digit c (omega arith)) ∙ ap char_of f) in
+          get_or-set_other table (char_of d) c d 0 q ∙ e.values c b (omega arith)
 
   pub entered_all : d ≡ 16 → Digits table
-  entered_all h = record { size = e.size; values = λ c b. go c b (dec_lt (digitOf c) 16) }
+  entered_all h = record { size = e.size; values = λ c b. go c b (dec_lt (digit_of c) 16) }
     where
-      go : (c : ℕ) → c < 256 → Dec (digitOf c < 16) → get_or table c 0 ≡ digitOf c
+      go : (c : ℕ) → c < 256 → Dec (digit_of c < 16) → get_or table c 0 ≡ digit_of c
       go c b (yes l) = e.values c b (omega arith)
-      go c b (no l) = e.others c b (omega arith) ∙ omega (arith, digit-most c)
+      go c b (no l) = e.others c b (omega arith) ∙ omega (arith, digit_most c)
 
 -- ── A byte of two digits ────────────────────────────────────────────────────────────────────
 
 abbrev pub digits : ℕ → ℕ → Bool
-digits a b = cond (ltb (digitOf a) 16) (ltb (digitOf b) 16) false
+digits a b = cond (ltb (digit_of a) 16) (ltb (digit_of b) 16) false
 
-pub digits-true : (x y : ℕ) → cond (ltb x 16) (ltb y 16) false ≡ true → (x < 16) × (y < 16)
-digits-true x y e = go (ltb x 16) refl e
+pub digits_true : (x y : ℕ) → cond (ltb x 16) (ltb y 16) false ≡ true → (x < 16) × (y < 16)
+digits_true x y e = go (ltb x 16) refl e
   where
     go : (t : Bool) → ltb x 16 ≡ t → cond t (ltb y 16) false ≡ true → (x < 16) × (y < 16)
     go true p q = (ltb-true x 16 p, ltb-true y 16 q)
     go false p q = clash (cc)
 
 module _ (a b : ℕ) where
-  pub byte-good : digitOf a < 16 → digitOf b < 16 → pair_of a b ≡ digitOf a * 16 + digitOf b
+  pub byte_good : digit_of a < 16 → digit_of b < 16 → pair_of a b ≡ digit_of a * 16 + digit_of b
   unfolding pair_of
-  byte-good h k = rw (lt-ltb (digitOf a) 16 h, lt-ltb (digitOf b) 16 k)
+  byte_good h k = rw (lt-ltb (digit_of a) 16 h, lt-ltb (digit_of b) 16 k)
 
   -- Below 256 only where both are digits.
-  pub byte-digits : pair_of a b < 256 → digits a b ≡ true
+  pub byte_digits : pair_of a b < 256 → digits a b ≡ true
   unfolding pair_of
-  byte-digits h = go (digits a b) refl h
+  byte_digits h = go (digits a b) refl h
     where
-      go : (t : Bool) → digits a b ≡ t → cond t (digitOf a * 16 + digitOf b) 256 < 256 → digits a b ≡ true
+      go : (t : Bool) → digits a b ≡ t → cond t (digit_of a * 16 + digit_of b) 256 < 256 → digits a b ≡ true
       go true e h = e
       go false e h = absurd (omega arith)
 
   -- A byte that is read is written with the same digits.
-  pub byte-hex : pair_of a b < 256 → hexOf (pair_of a b ∷ []) ≡ a ∷ b ∷ []
-  unfolding hexOf
-  byte-hex h =
-      let d = digits-true (digitOf a) (digitOf b) (byte-digits h) in
-      let v = byte-good d.0 d.1 in
-      let e : pair_of a b / 16 ≡ digitOf a = omega (arith, d) in
-      let f : pair_of a b % 16 ≡ digitOf b = omega (arith, d) in
-      rw (e, f, char-digit a d.0, char-digit b d.1)
+  pub byte_hex : pair_of a b < 256 → hex_of (pair_of a b ∷ []) ≡ a ∷ b ∷ []
+  unfolding hex_of
+  byte_hex h =
+      let d = digits_true (digit_of a) (digit_of b) (byte_digits h) in
+      let v = byte_good d.0 d.1 in
+      let e : pair_of a b / 16 ≡ digit_of a = omega (arith, d) in
+      let f : pair_of a b % 16 ≡ digit_of b = omega (arith, d) in
+      rw (e, f, char_digit a d.0, char_digit b d.1)
 
-pub byte-written : (b : ℕ) → b < 256 → pair_of (charOf (b / 16)) (charOf (b % 16)) ≡ b
+pub byte_written : (b : ℕ) → b < 256 → pair_of (char_of (b / 16)) (char_of (b % 16)) ≡ b
 unfolding pair_of
-byte-written b h =
+byte_written b h =
     let hi = digit_char (b / 16) (omega arith) in
     let lo = digit_char (b % 16) (omega arith) in
     rw (hi, lo, lt-ltb (b / 16) 16 (omega arith), lt-ltb (b % 16) 16 (omega arith)) (omega arith)

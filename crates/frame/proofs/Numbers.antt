@@ -1,8 +1,8 @@
 -- Bytes, and the numbers that they spell.
 --   Bytes bs                     every element of bs is below 256
 --   number_append, number_small  the number of bytes, and its bound
---   number-bytes, bytes-number   a number as n bytes, and back
---   bytes-..., length-bytes      lists of bytes
+--   number_bytes, bytes_number   a number as n bytes, and back
+--   bytes-..., length_bytes      lists of bytes
 use mathlib.Core.Path.{◌≡◌, refl}
 use mathlib.Core.List.{List, [], ◌∷◌, ◌++◌}
 use Prim.Native.Nat.{ℕ, zero, suc, ◌+◌, ◌*◌, ◌^◌, ◌/◌, ◌%◌, ◌≤◌, ◌<◌}
@@ -16,10 +16,10 @@ unfoldable pub Bytes : List ℕ → Type 0
 Bytes [] = Unit
 Bytes (b ∷ bs) = (b < 256) × Bytes bs
 
-pub bytes-append : (xs ys : List ℕ) → Bytes xs → Bytes ys → Bytes (xs ++ ys)
+pub bytes_append : (xs ys : List ℕ) → Bytes xs → Bytes ys → Bytes (xs ++ ys)
 unfolding Bytes
-bytes-append [] ys h k = k
-bytes-append (x ∷ xs) ys h k = (h.0, bytes-append xs ys h.1 k)
+bytes_append [] ys h k = k
+bytes_append (x ∷ xs) ys h k = (h.0, bytes_append xs ys h.1 k)
 
 pub bytes_take : (n : ℕ) (bs : List ℕ) → Bytes bs → Bytes (take n bs)
 unfolding Bytes
@@ -49,37 +49,37 @@ number_small (b ∷ bs) h =
     let b255 : b ≤ 255 = omega (arith, h.0) in
     rw pow-suc (omega (arith, number_small bs h.1, mul-le-mul_right (256 ^ length bs) b255))
 
-pub length-bytes : (n x : ℕ) → length (bytes_of n x) ≡ n
+pub length_bytes : (n x : ℕ) → length (bytes_of n x) ≡ n
 unfolding bytes_of
-length-bytes zero x = refl
-length-bytes (suc n) x = simp (length-append, length-bytes n (x / 256)) (omega arith)
+length_bytes zero x = refl
+length_bytes (suc n) x = simp (length-append, length_bytes n (x / 256)) (omega arith)
 
-pub bytes-bytes : (n x : ℕ) → Bytes (bytes_of n x)
+pub bytes_bytes : (n x : ℕ) → Bytes (bytes_of n x)
 unfolding bytes_of Bytes
-bytes-bytes zero x = tt
-bytes-bytes (suc n) x = bytes-append (bytes_of n (x / 256)) (x % 256 ∷ []) (bytes-bytes n (x / 256)) (omega arith, tt)
+bytes_bytes zero x = tt
+bytes_bytes (suc n) x = bytes_append (bytes_of n (x / 256)) (x % 256 ∷ []) (bytes_bytes n (x / 256)) (omega arith, tt)
 
-pub number-bytes : (n x : ℕ) → x < 256 ^ n → number (bytes_of n x) ≡ x
+pub number_bytes : (n x : ℕ) → x < 256 ^ n → number (bytes_of n x) ≡ x
 unfolding bytes_of number
-number-bytes zero x h = omega arith
-number-bytes (suc n) x h =
+number_bytes zero x h = omega arith
+number_bytes (suc n) x h =
     let e : 256 ^ suc n ≡ 256 ^ n * 256 = pow-suc 256 n in
     let l : x / 256 < 256 ^ n = omega arith in
-    rw (number_append, number-bytes n (x / 256) l) (omega arith)
+    rw (number_append, number_bytes n (x / 256) l) (omega arith)
 
 -- The high byte of a number stands first.
-bytes-cons : (n b x : ℕ) → b < 256 → x < 256 ^ n → bytes_of (suc n) (b * 256 ^ n + x) ≡ b ∷ bytes_of n x
+bytes_cons : (n b x : ℕ) → b < 256 → x < 256 ^ n → bytes_of (suc n) (b * 256 ^ n + x) ≡ b ∷ bytes_of n x
 unfolding bytes_of
-bytes-cons zero b x h k =
+bytes_cons zero b x h k =
     let e : b * 256 ^ zero + x ≡ b = omega arith in
     let f : b % 256 ≡ b = omega arith in
     rw (e, f)
-bytes-cons (suc n) b x h k =
+bytes_cons (suc n) b x h k =
     let e : b * 256 ^ suc n + x ≡ b * 256 ^ n * 256 + x = rw (pow-suc, ← mul_assoc) in
     let l : x / 256 < 256 ^ n = omega (arith, pow-suc 256 n) in
-    rw (e, mul-add-div_right {m = 256} (zero-lt-suc 255), mul-add-mod_self_right, bytes-cons n b (x / 256) h l)
+    rw (e, mul-add-div_right {m = 256} (zero-lt-suc 255), mul-add-mod_self_right, bytes_cons n b (x / 256) h l)
 
-pub bytes-number : (bs : List ℕ) → Bytes bs → bytes_of (length bs) (number bs) ≡ bs
+pub bytes_number : (bs : List ℕ) → Bytes bs → bytes_of (length bs) (number bs) ≡ bs
 unfolding bytes_of number Bytes
-bytes-number [] h = refl
-bytes-number (b ∷ bs) h = rw (bytes-cons (length bs) b (number bs) h.0 (number_small bs h.1), bytes-number bs h.1)
+bytes_number [] h = refl
+bytes_number (b ∷ bs) h = rw (bytes_cons (length bs) b (number bs) h.0 (number_small bs h.1), bytes_number bs h.1)

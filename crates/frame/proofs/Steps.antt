@@ -11,11 +11,11 @@ use lib.ListN.{length, get_or, take, drop, set, replicate, length-replicate}
 use lib.Seq.{sets, sets-eq, drop-cons, take-suc, length-take-le, take_all}
 use borrow.Author.Tests.{eq-eqb, ne_eqb}
 use Rattle.frame.specs.declared.Frame.{Frame}
-use Rattle.frame.specs.Frame.{Line, bad, line, with_byte, line_at, of-kind, frame_at, hexOf, line_of, placed}
+use Rattle.frame.specs.Frame.{Line, bad, line, with_byte, line_at, of_kind, frame_at, hex_of, line_of, placed}
 use Rattle.frame.specs.inner.Decoded.{pair_of, decoded, framed}
-use Rattle.frame.proofs.Laws.{line-more, line-none, line-rest, length-hex, length-line}
-use Rattle.theory.proofs.numbers.Stores.{sets-sets}
-use Rattle.frame.proofs.Buffers.{framed-decoded, placed-room, placed-full}
+use Rattle.frame.proofs.Laws.{line_more, line_none, line_rest, length_hex, length_line}
+use Rattle.theory.proofs.numbers.Stores.{sets_sets}
+use Rattle.frame.proofs.Buffers.{framed_decoded, placed_room, placed_full}
 
 -- ── Read ────────────────────────────────────────────────────────────────────────────────────
 
@@ -30,27 +30,27 @@ abbrev pub fill : List ℕ → ℕ → Line → Frame
 fill bytes i bad = decoded bad
 fill bytes i (line cs rest) = record { ok = true; bytes = sets bytes i cs }
 
-fill-byte : (bytes : List ℕ) (i b : ℕ) (l : Line) → fill bytes i (with_byte b l) ≡ fill (set bytes i b) (suc i) l
-fill-byte bytes i b bad = refl
-fill-byte bytes i b (line cs rest) = refl
+fill_byte : (bytes : List ℕ) (i b : ℕ) (l : Line) → fill bytes i (with_byte b l) ≡ fill (set bytes i b) (suc i) l
+fill_byte bytes i b bad = refl
+fill_byte bytes i b (line cs rest) = refl
 
-drop-zeros : (k m : ℕ) → k ≤ m → drop {A = ℕ} k (replicate m 0) ≡ replicate (m - k) 0
-drop-zeros zero m h = let e : m - 0 ≡ m = omega arith in rw e
-drop-zeros (suc k) zero h = absurd (omega arith)
-drop-zeros (suc k) (suc m) h = let e : suc m - suc k ≡ m - k = omega arith in rw e (drop-zeros k m (omega arith))
+drop_zeros : (k m : ℕ) → k ≤ m → drop {A = ℕ} k (replicate m 0) ≡ replicate (m - k) 0
+drop_zeros zero m h = let e : m - 0 ≡ m = omega arith in rw e
+drop_zeros (suc k) zero h = absurd (omega arith)
+drop_zeros (suc k) (suc m) h = let e : suc m - suc k ≡ m - k = omega arith in rw e (drop_zeros k m (omega arith))
 
-sets-zeros : (bs : List ℕ) (m : ℕ) → length bs ≤ m → sets (replicate m 0) 0 bs ≡ bs ++ replicate (m - length bs) 0
-sets-zeros bs m h =
+sets_zeros : (bs : List ℕ) (m : ℕ) → length bs ≤ m → sets (replicate m 0) 0 bs ≡ bs ++ replicate (m - length bs) 0
+sets_zeros bs m h =
     let e : 0 + length bs ≡ length bs = omega arith in
-    sets-eq bs (replicate m 0) 0 (rw length-replicate (omega arith)) ∙ rw (e, drop-zeros (length bs) m h)
+    sets-eq bs (replicate m 0) 0 (rw length-replicate (omega arith)) ∙ rw (e, drop_zeros (length bs) m h)
 
 -- Before the first turn.
-pub fill-zeros : (n : ℕ) (l : List ℕ) → n ≤ 16 → fill (replicate 16 0) 0 (line_at n l) ≡ decoded (line_at n l)
-fill-zeros n l h = go (line_at n l) refl
+pub fill_zeros : (n : ℕ) (l : List ℕ) → n ≤ 16 → fill (replicate 16 0) 0 (line_at n l) ≡ decoded (line_at n l)
+fill_zeros n l h = go (line_at n l) refl
   where
     go : (m : Line) → line_at n l ≡ m → fill (replicate 16 0) 0 m ≡ decoded m
     go bad e = refl
-    go (line bs rest) e = ap (λ x. record { ok = true; bytes = x }) (sets-zeros bs 16 (omega (arith, (line-rest n l bs rest e).0)))
+    go (line bs rest) e = ap (λ x. record { ok = true; bytes = x }) (sets_zeros bs 16 (omega (arith, (line_rest n l bs rest e).0)))
 
 -- A turn: two digits more, at place j.
 module _ (s : List ℕ) (j n i : ℕ) (h : j + 1 < length s) (m : i < n) where
@@ -59,93 +59,93 @@ module _ (s : List ℕ) (j n i : ℕ) (h : j + 1 < length s) (m : i < n) where
 
   pub turn : (bytes : List ℕ) → pair_of (get_or s j 0) (get_or s (j + 1) 0) < 256
       → fill bytes i (line_at (n - i) (drop j s)) ≡ fill (set bytes i (pair_of (get_or s j 0) (get_or s (j + 1) 0))) (i + 1) (line_at (n - (i + 1)) (drop (j + 2) s))
-  turn bytes k = rw (shorter, two s j h, line-more _ _ (n - (i + 1)) (drop (j + 2) s) k, fill-byte, add-one i)
+  turn bytes k = rw (shorter, two s j h, line_more _ _ (n - (i + 1)) (drop (j + 2) s) k, fill_byte, add-one i)
 
-  pub turn-none : 256 ≤ pair_of (get_or s j 0) (get_or s (j + 1) 0) → line_at (n - i) (drop j s) ≡ bad
-  turn-none k = rw (shorter, two s j h) (line-none _ _ (n - (i + 1)) (drop (j + 2) s) k)
+  pub turn_none : 256 ≤ pair_of (get_or s j 0) (get_or s (j + 1) 0) → line_at (n - i) (drop j s) ≡ bad
+  turn_none k = rw (shorter, two s j h) (line_none _ _ (n - (i + 1)) (drop (j + 2) s) k)
 
 -- After the last turn.
 module _ (s : List ℕ) (j : ℕ) (h : j < length s) where
-  pub end-feed : get_or s j 0 ≡ 10 → line_at 0 (drop j s) ≡ line [] (drop (suc j) s)
+  pub end_feed : get_or s j 0 ≡ 10 → line_at 0 (drop j s) ≡ line [] (drop (suc j) s)
   unfolding line_at
-  end-feed e = rw (drop-cons s j 0, eq-eqb _ 10 e)
+  end_feed e = rw (drop-cons s j 0, eq-eqb _ 10 e)
 
   pub end_none : (get_or s j 0 ≡ 10 → ⊥) → line_at 0 (drop j s) ≡ bad
   unfolding line_at
   end_none e = rw (drop-cons s j 0, ne_eqb _ 10 e)
 
 -- A text too short has no line.
-pub line-short : (n : ℕ) (l : List ℕ) → length l < 2 * n + 1 → line_at n l ≡ bad
+pub line_short : (n : ℕ) (l : List ℕ) → length l < 2 * n + 1 → line_at n l ≡ bad
 unfolding line_at
-line-short zero [] h = refl
-line-short zero (c ∷ l) h = absurd (omega arith)
-line-short (suc n) [] h = refl
-line-short (suc n) (a ∷ []) h = refl
-line-short (suc n) (a ∷ b ∷ l) h = go (dec_lt (pair_of a b) 256) (line-short n l (omega arith))
+line_short zero [] h = refl
+line_short zero (c ∷ l) h = absurd (omega arith)
+line_short (suc n) [] h = refl
+line_short (suc n) (a ∷ []) h = refl
+line_short (suc n) (a ∷ b ∷ l) h = go (dec_lt (pair_of a b) 256) (line_short n l (omega arith))
   where
     go : Dec (pair_of a b < 256) → line_at n l ≡ bad → line_at (suc n) (a ∷ b ∷ l) ≡ bad
-    go (yes k) e = line-more a b n l k ∙ ap (with_byte (pair_of a b)) e
-    go (no k) e = line-none a b n l (omega arith)
+    go (yes k) e = line_more a b n l k ∙ ap (with_byte (pair_of a b)) e
+    go (no k) e = line_none a b n l (omega arith)
 
-pub frame-short : (k n : ℕ) (l : List ℕ) → length l < 2 * n + 3 → frame_at k n l ≡ bad
+pub frame_short : (k n : ℕ) (l : List ℕ) → length l < 2 * n + 3 → frame_at k n l ≡ bad
 unfolding frame_at
-frame-short k n l h = rw (line-short (suc n) l (omega arith))
+frame_short k n l h = rw (line_short (suc n) l (omega arith))
 
 -- The record of a line that is known.
-pub framed-as : (k n : ℕ) (l : List ℕ) {m : Line} → n ≤ 16 → frame_at k n l ≡ m → decoded m ≡ framed k n l
-framed-as k n l h e = sym (framed-decoded k n l h ∙ ap decoded e)
+pub framed_as : (k n : ℕ) (l : List ℕ) {m : Line} → n ≤ 16 → frame_at k n l ≡ m → decoded m ≡ framed k n l
+framed_as k n l h e = sym (framed_decoded k n l h ∙ ap decoded e)
 
 -- The kind, at place j.
 module _ (k n j : ℕ) (s : List ℕ) (h : j + 1 < length s) where
-  pub kind-same : k < 256 → pair_of (get_or s j 0) (get_or s (j + 1) 0) ≡ k → frame_at k n (drop j s) ≡ line_at n (drop (j + 2) s)
+  pub kind_same : k < 256 → pair_of (get_or s j 0) (get_or s (j + 1) 0) ≡ k → frame_at k n (drop j s) ≡ line_at n (drop (j + 2) s)
   unfolding frame_at
-  kind-same m e = rw (two s j h, line-more (get_or s j 0) (get_or s (j + 1) 0) n (drop (j + 2) s) (rw e m), e) (go (line_at n (drop (j + 2) s)))
+  kind_same m e = rw (two s j h, line_more (get_or s j 0) (get_or s (j + 1) 0) n (drop (j + 2) s) (rw e m), e) (go (line_at n (drop (j + 2) s)))
     where
-      go : (l : Line) → of-kind k (with_byte k l) ≡ l
+      go : (l : Line) → of_kind k (with_byte k l) ≡ l
       go bad = refl
       go (line bs rest) = rw (eq-eqb k k refl)
 
-  pub kind-other : (pair_of (get_or s j 0) (get_or s (j + 1) 0) ≡ k → ⊥) → frame_at k n (drop j s) ≡ bad
+  pub kind_other : (pair_of (get_or s j 0) (get_or s (j + 1) 0) ≡ k → ⊥) → frame_at k n (drop j s) ≡ bad
   unfolding frame_at
-  kind-other e = rw (two s j h) (go (dec_lt b 256))
+  kind_other e = rw (two s j h) (go (dec_lt b 256))
     where
       b : ℕ
       b = pair_of (get_or s j 0) (get_or s (j + 1) 0)
 
-      other : (l : Line) → of-kind k (with_byte b l) ≡ bad
+      other : (l : Line) → of_kind k (with_byte b l) ≡ bad
       other bad = refl
       other (line bs rest) = rw (ne_eqb b k e)
 
-      go : Dec (b < 256) → of-kind k (line_at (suc n) (get_or s j 0 ∷ get_or s (j + 1) 0 ∷ drop (j + 2) s)) ≡ bad
-      go (yes l) = ap (of-kind k) (line-more _ _ n (drop (j + 2) s) l) ∙ other (line_at n (drop (j + 2) s))
-      go (no l) = ap (of-kind k) (line-none _ _ n (drop (j + 2) s) (omega arith))
+      go : Dec (b < 256) → of_kind k (line_at (suc n) (get_or s j 0 ∷ get_or s (j + 1) 0 ∷ drop (j + 2) s)) ≡ bad
+      go (yes l) = ap (of_kind k) (line_more _ _ n (drop (j + 2) s) l) ∙ other (line_at n (drop (j + 2) s))
+      go (no l) = ap (of_kind k) (line_none _ _ n (drop (j + 2) s) (omega arith))
 
 -- ── Written ─────────────────────────────────────────────────────────────────────────────────
 
-hex-append : (xs ys : List ℕ) → hexOf (xs ++ ys) ≡ hexOf xs ++ hexOf ys
-unfolding hexOf
-hex-append [] ys = refl
-hex-append (x ∷ xs) ys = rw (hex-append xs ys)
+hex_append : (xs ys : List ℕ) → hex_of (xs ++ ys) ≡ hex_of xs ++ hex_of ys
+unfolding hex_of
+hex_append [] ys = refl
+hex_append (x ∷ xs) ys = rw (hex_append xs ys)
 
 -- A turn: one byte more.
-pub put-more : (bytes l : List ℕ) (at i : ℕ) → i < length bytes
-    → sets (sets l at (hexOf (take i bytes))) (at + 2 * i) (hexOf (get_or bytes i 0 ∷ [])) ≡ sets l at (hexOf (take (i + 1) bytes))
-put-more bytes l at i h =
-    let e : length (hexOf (take i bytes)) ≡ 2 * i = length-hex (take i bytes) ∙ ap (λ n. 2 * n) (length-take-le i bytes (omega arith)) in
-    sets-sets (hexOf (take i bytes)) (hexOf (get_or bytes i 0 ∷ [])) l at (at + 2 * i) (rw e)
-    ∙ rw (← hex-append, add-one, take-suc bytes i 0 h)
+pub put_more : (bytes l : List ℕ) (at i : ℕ) → i < length bytes
+    → sets (sets l at (hex_of (take i bytes))) (at + 2 * i) (hex_of (get_or bytes i 0 ∷ [])) ≡ sets l at (hex_of (take (i + 1) bytes))
+put_more bytes l at i h =
+    let e : length (hex_of (take i bytes)) ≡ 2 * i = length_hex (take i bytes) ∙ ap (λ n. 2 * n) (length-take-le i bytes (omega arith)) in
+    sets_sets (hex_of (take i bytes)) (hex_of (get_or bytes i 0 ∷ [])) l at (at + 2 * i) (rw e)
+    ∙ rw (← hex_append, add-one, take-suc bytes i 0 h)
 
 -- The line feed after the digits.
-pub put-end : (bs l : List ℕ) (at m : ℕ) → length bs ≡ m → at + (2 * m + 1) ≤ length l
-    → set (sets l at (hexOf bs)) (at + 2 * m) 10 ≡ placed l at (line_of bs)
+pub put_end : (bs l : List ℕ) (at m : ℕ) → length bs ≡ m → at + (2 * m + 1) ≤ length l
+    → set (sets l at (hex_of bs)) (at + 2 * m) 10 ≡ placed l at (line_of bs)
 unfolding line_of
-put-end bs l at m e h =
-    let f : length (hexOf bs) ≡ 2 * m = length-hex bs ∙ ap (λ n. 2 * n) e in
-    sets-sets (hexOf bs) (10 ∷ []) l at (at + 2 * m) (rw f)
-    ∙ sym (placed-room l at (line_of bs) (omega (arith, length-line bs)))
+put_end bs l at m e h =
+    let f : length (hex_of bs) ≡ 2 * m = length_hex bs ∙ ap (λ n. 2 * n) e in
+    sets_sets (hex_of bs) (10 ∷ []) l at (at + 2 * m) (rw f)
+    ∙ sym (placed_room l at (line_of bs) (omega (arith, length_line bs)))
 
 pub put_full : (bs l : List ℕ) (at m : ℕ) → length bs ≡ m → length l < at + (2 * m + 1) → placed l at (line_of bs) ≡ l
-put_full bs l at m e h = placed-full l at (line_of bs) (omega (arith, length-line bs))
+put_full bs l at m e h = placed_full l at (line_of bs) (omega (arith, length_line bs))
 
 -- No more bytes than there are.
 pub take_same : (bs : List ℕ) (m n : ℕ) → length bs ≤ m → length bs ≤ n → take m bs ≡ take n bs

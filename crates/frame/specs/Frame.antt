@@ -1,9 +1,9 @@
 -- Frames. Document 01: "One frame a line: hexadecimal digits 0-9 A-F, two a byte, no blanks, ended by one line feed. Numbers of several bytes have the high byte first."
---   digitOf c            the value of the digit c; 16 where c is none
+--   digit_of c           the value of the digit c; 16 where c is none
 --   line_at n l          the n bytes of the line at the front of l, and what follows the line
 --   frame_at k n l       the same of a line of kind k with n more bytes: those n
 --   number_at i n bs     the number of n bytes, from the i-th
---   hexOf bs, line_of bs the digits of the bytes bs; the line of them
+--   hex_of bs, line_of bs the digits of the bytes bs; the line of them
 --   bytes_of n x         the number x as n bytes
 --   placed l at vs       l with vs from place `at` on, where there is room; else l
 use Rattle.std.specs.Prelude.{Bool, false, cond, List, [], ◌∷◌, ◌++◌, ℕ, zero, suc, ◌+◌, ◌-◌, ◌*◌, ◌^◌, ◌/◌, ◌%◌, eqb, ltb, leb, length, take, drop}
@@ -13,8 +13,8 @@ abbrev pub within : ℕ → ℕ → ℕ → Bool
 within low high x = cond (leb low x) (leb x high) false
 
 -- 0-9 are the bytes 48 to 57, A-F the bytes 65 to 70.
-unfoldable pub digitOf : ℕ → ℕ
-digitOf c = cond (within 48 57 c) (c - 48) (cond (within 65 70 c) (c - 55) 16)
+unfoldable pub digit_of : ℕ → ℕ
+digit_of c = cond (within 48 57 c) (c - 48) (cond (within 65 70 c) (c - 55) 16)
 
 -- ── Read ────────────────────────────────────────────────────────────────────────────────────
 
@@ -23,9 +23,9 @@ pub data Line : Type 0 where
   bad : Line
   line : (bytes rest : List ℕ) → Line
 
-abbrev pub onLine : {A : Type 0} → Line → A → (List ℕ → List ℕ → A) → A
-onLine bad a f = a
-onLine (line bs l) a f = f bs l
+abbrev pub on_line : {A : Type 0} → Line → A → (List ℕ → List ℕ → A) → A
+on_line bad a f = a
+on_line (line bs l) a f = f bs l
 
 abbrev pub with_byte : ℕ → Line → Line
 with_byte b bad = bad
@@ -36,15 +36,15 @@ line_at zero [] = bad
 line_at zero (c ∷ l) = cond (eqb c 10) (line [] l) bad
 line_at (suc n) [] = bad
 line_at (suc n) (a ∷ []) = bad
-line_at (suc n) (a ∷ b ∷ l) = cond (cond (ltb (digitOf a) 16) (ltb (digitOf b) 16) false) (with_byte (digitOf a * 16 + digitOf b) (line_at n l)) bad
+line_at (suc n) (a ∷ b ∷ l) = cond (cond (ltb (digit_of a) 16) (ltb (digit_of b) 16) false) (with_byte (digit_of a * 16 + digit_of b) (line_at n l)) bad
 
-abbrev pub of-kind : ℕ → Line → Line
-of-kind k bad = bad
-of-kind k (line [] l) = bad
-of-kind k (line (b ∷ bs) l) = cond (eqb b k) (line bs l) bad
+abbrev pub of_kind : ℕ → Line → Line
+of_kind k bad = bad
+of_kind k (line [] l) = bad
+of_kind k (line (b ∷ bs) l) = cond (eqb b k) (line bs l) bad
 
 unfoldable pub frame_at : ℕ → ℕ → List ℕ → Line
-frame_at k n l = of-kind k (line_at (suc n) l)
+frame_at k n l = of_kind k (line_at (suc n) l)
 
 unfoldable pub number : List ℕ → ℕ
 number [] = 0
@@ -55,15 +55,15 @@ number_at i n bs = number (take n (drop i bs))
 
 -- ── Written ─────────────────────────────────────────────────────────────────────────────────
 
-unfoldable pub charOf : ℕ → ℕ
-charOf d = cond (ltb d 10) (d + 48) (d + 55)
+unfoldable pub char_of : ℕ → ℕ
+char_of d = cond (ltb d 10) (d + 48) (d + 55)
 
-unfoldable pub hexOf : List ℕ → List ℕ
-hexOf [] = []
-hexOf (b ∷ bs) = charOf (b / 16) ∷ charOf (b % 16) ∷ hexOf bs
+unfoldable pub hex_of : List ℕ → List ℕ
+hex_of [] = []
+hex_of (b ∷ bs) = char_of (b / 16) ∷ char_of (b % 16) ∷ hex_of bs
 
 unfoldable pub line_of : List ℕ → List ℕ
-line_of bs = hexOf bs ++ (10 ∷ [])
+line_of bs = hex_of bs ++ (10 ∷ [])
 
 unfoldable pub bytes_of : ℕ → ℕ → List ℕ
 bytes_of zero x = []

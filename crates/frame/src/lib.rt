@@ -4,7 +4,7 @@
 
 ghost use Rattle.std.specs.Prelude.{◌≡◌, ◌∷◌, [], ◌+◌, ◌*◌, ◌<◌, ◌≤◌, length, take, drop};
 ghost use Rattle.std.proofs.lemmas.List.Edits.{sets};
-ghost use Rattle.frame.specs.Frame.{line_at, bad, charOf, hexOf, line_of, placed};
+ghost use Rattle.frame.specs.Frame.{line_at, bad, char_of, hex_of, line_of, placed};
 ghost use Rattle.frame.specs.inner.Decoded.{Digits, pair_of, decoded, framed};
 
 // A line's bytes after its kind, or `ok` false. Bytes past the line's are 0.
@@ -17,7 +17,7 @@ pub struct Frame {
 // The digit of a value below 16.
 fn char_of(d: u8) -> u8
     requires { d < 16 }
-    ensures { result ≡ charOf d }
+    ensures { result ≡ char_of d }
 {
     if d < 10 { d + 48 } else { d + 55 }
 }
@@ -116,7 +116,7 @@ pub fn frame_at(text: &[u8], at: usize, kind: u8, n: usize) -> Frame
 // A byte's two digits at `at`, where there is room.
 fn put_byte(out: &mut [u8], at: usize, b: u8)
     requires { at + 2 ≤ length out.old }
-    ensures { out.new ≡ sets out.old at (hexOf (b ∷ [])) }
+    ensures { out.new ≡ sets out.old at (hex_of (b ∷ [])) }
 {
     out[at] = char_of(b / 16);
     out[at + 1] = char_of(b % 16);
@@ -125,7 +125,7 @@ fn put_byte(out: &mut [u8], at: usize, b: u8)
 // The digits of the first `n` of `bytes`, from `at` on, where there is room.
 fn put_bytes(out: &mut [u8], at: usize, bytes: [u8; 16], n: usize)
     requires { (n ≤ 16) × (at + 2 * n ≤ length out.old) }
-    ensures { out.new ≡ sets out.old at (hexOf (take n bytes)) }
+    ensures { out.new ≡ sets out.old at (hex_of (take n bytes)) }
 {
     let mut i = 0;
     while i < n {

@@ -1,7 +1,7 @@
 -- A row of gates, a turn at a time.
---   bits-set            a bit put among bits
---   seen-bits, placed-seen    what a gate sees is bits, and in place
---   evaluated-more, evaluated-length, evaluated-bits    one gate more; as many signals; bits
+--   bits_set            a bit put among bits
+--   seen_bits, placed_seen    what a gate sees is bits, and in place
+--   evaluated_more, evaluated_length, evaluated_bits    one gate more; as many signals; bits
 use Prim.Native.Nat.{ℕ, zero, suc, ◌+◌, ◌-◌, ◌<◌, ◌≤◌}
 use native.Mathlib.Omega.{arith}
 use native.Mathlib.Numerals.{add-one}
@@ -11,29 +11,29 @@ use mathlib.Core.List.{List, map}
 use lib.ListN.{length, set, length-set}
 use lib.Seq.{get_or-set_same, get_or-set_other, set_out}
 use Rattle.theory.specs.Gate.{gate}
-use Rattle.theory.proofs.clocks.Gate.{gate-bit}
+use Rattle.theory.proofs.clocks.Gate.{gate_bit}
 use Rattle.graph.specs.Columns.{at}
 use Rattle.gates.specs.inner.Gates.{part, AllBits, InputRows, evaluated, GateRows}
-use Rattle.gates.proofs.Words.{part_length, part_at, bits-map}
+use Rattle.gates.proofs.Words.{part_length, part_at, bits_map}
 
-pub bits-set : (sig : List ℕ) (i x : ℕ) → x ≤ 1 → AllBits sig → AllBits (set sig i x)
-bits-set sig i x h b k = go (ℕ_discrete k i) (dec_lt i (length sig))
+pub bits_set : (sig : List ℕ) (i x : ℕ) → x ≤ 1 → AllBits sig → AllBits (set sig i x)
+bits_set sig i x h b k = go (ℕ_discrete k i) (dec_lt i (length sig))
   where
     go : Dec (k ≡ i) → Dec (i < length sig) → at (set sig i x) k ≤ 1
     go (no z) d = omega (arith, get_or-set_other sig i k x 0 z, b k)
     go (yes z) (yes l) = subst (λ n. at (set sig i x) n ≤ 1) (sym z) (omega (arith, get_or-set_same sig i x 0 l))
     go (yes z) (no l) = omega (arith, ap (λ s. at s k) (set_out sig i x (omega arith)), b k)
 
-pub seen-bits : (truth : ℕ) (list : List ℕ) (lo hi : ℕ) (sig : List ℕ) → InputRows truth list lo hi sig → AllBits (map (at sig) (part list lo hi))
-seen-bits truth list lo hi sig s = bits-map (at sig) (part list lo hi) (λ i h. one i (subst (λ n. i < n) (part_length list lo hi s.in_list) h))
+pub seen_bits : (truth : ℕ) (list : List ℕ) (lo hi : ℕ) (sig : List ℕ) → InputRows truth list lo hi sig → AllBits (map (at sig) (part list lo hi))
+seen_bits truth list lo hi sig s = bits_map (at sig) (part list lo hi) (λ i h. one i (subst (λ n. i < n) (part_length list lo hi s.in_list) h))
   where
     one : (i : ℕ) → i < hi - lo → at sig (at (part list lo hi) i) ≤ 1
     one i h = rw (part_at list lo hi i h) (s.signals (lo + i) (omega arith) (omega arith)).1
 
 -- The signals of a gate that has its place, among signals that are as many as there were before, and bits.
-pub placed-seen : (truth first list : List ℕ) (base : ℕ) (old sig : List ℕ) (v : ℕ) → GateRows truth first list base (length old) v → length sig ≡ length old → AllBits sig
+pub placed_seen : (truth first list : List ℕ) (base : ℕ) (old sig : List ℕ) (v : ℕ) → GateRows truth first list base (length old) v → length sig ≡ length old → AllBits sig
     → InputRows (at truth v) list (at first v) (at first (v + 1)) sig
-placed-seen truth first list base old sig v p e b = rw add-one record {
+placed_seen truth first list base old sig v p e b = rw add-one record {
   up = p.up;
   in_list = p.in_list;
   narrow = p.narrow;
@@ -43,23 +43,23 @@ placed-seen truth first list base old sig v p e b = rw add-one record {
 -- ── The signals ─────────────────────────────────────────────────────────────────────────────
 
 module _ (kind node first list : List ℕ) (base : ℕ) (sig : List ℕ) where
-  pub evaluated-more : (n : ℕ) → evaluated kind node first list base (n + 1) sig
+  pub evaluated_more : (n : ℕ) → evaluated kind node first list base (n + 1) sig
       ≡ (let before = evaluated kind node first list base n sig in
       let v = at node n in
       set before (base + v) (gate (at kind v) (map (at before) (part list (at first v) (at first (suc v))))))
   unfolding evaluated
-  evaluated-more n = rw add-one
+  evaluated_more n = rw add-one
 
-  pub evaluated-length : (n : ℕ) → length (evaluated kind node first list base n sig) ≡ length sig
+  pub evaluated_length : (n : ℕ) → length (evaluated kind node first list base n sig) ≡ length sig
   unfolding evaluated
-  evaluated-length zero = refl
-  evaluated-length (suc n) = simp length-set (evaluated-length n)
+  evaluated_length zero = refl
+  evaluated_length (suc n) = simp length-set (evaluated_length n)
 
-  pub evaluated-bits : (n : ℕ) → AllBits sig → AllBits (evaluated kind node first list base n sig)
+  pub evaluated_bits : (n : ℕ) → AllBits sig → AllBits (evaluated kind node first list base n sig)
   unfolding evaluated
-  evaluated-bits zero b = b
-  evaluated-bits (suc n) b =
+  evaluated_bits zero b = b
+  evaluated_bits (suc n) b =
       let before = evaluated kind node first list base n sig in
       let v = at node n in
       let l = map (at before) (part list (at first v) (at first (suc v))) in
-      bits-set before (base + v) (gate (at kind v) l) (gate-bit (at kind v) l) (evaluated-bits n b)
+      bits_set before (base + v) (gate (at kind v) l) (gate_bit (at kind v) l) (evaluated_bits n b)

@@ -1,11 +1,11 @@
 -- Bits gathered in a word.
---   part_none, part-more, part_length, part_at    a part of a list: of no place, the first place apart, how long, what stands there
---   bits-map            what a part of a list of bits shows is bits
---   word_none, word_more, word-wider    how large the gathered word is: of no bit, with one bit more, at the end
+--   part_none, part_more, part_length, part_at    a part of a list: of no place, the first place apart, how long, what stands there
+--   bits_map            what a part of a list of bits shows is bits
+--   word_none, word_more, word_wider    how large the gathered word is: of no bit, with one bit more, at the end
 --   word_below          so large at most
---   seed-narrow         the seed of a truth word that has nothing below its seed
---   ones-few            a sum of bits is no more than how many there are
---   ones-from           it has the ones of the seed and one for each bit that is 1
+--   seed_narrow         the seed of a truth word that has nothing below its seed
+--   ones_few            a sum of bits is no more than how many there are
+--   ones_from           it has the ones of the seed and one for each bit that is 1
 use Prim.Native.Nat.{ℕ, zero, suc, ◌+◌, ◌-◌, ◌*◌, ◌^◌, ◌/◌, ◌<◌, ◌≤◌}
 use native.Mathlib.Omega.{arith}
 use native.Mathlib.Nat.{pow-suc, mul_assoc, mul_comm, mul-le-mul_left, mul-le-mul_right}
@@ -18,7 +18,7 @@ use lib.ListN.{length, take, drop, length-take, length-drop}
 use lib.Seq.{drop-cons, get_or-take, get_or-drop}
 use Rattle.theory.specs.Gate.{ones as total}
 use Rattle.graph.specs.Columns.{at}
-use Rattle.gates.specs.inner.Gates.{part, AllBits, wordFrom, Narrow}
+use Rattle.gates.specs.inner.Gates.{part, AllBits, word_from, Narrow}
 
 -- ── Parts of a list ─────────────────────────────────────────────────────────────────────────
 
@@ -26,8 +26,8 @@ module _ (list : List ℕ) where
   pub part_none : (hi : ℕ) → part list hi hi ≡ []
   part_none hi = ap (λ n. take n (drop hi list)) (let z : hi - hi ≡ 0 = omega arith in z)
 
-  pub part-more : (lo hi : ℕ) → lo < hi → hi ≤ length list → part list lo hi ≡ at list lo ∷ part list (lo + 1) hi
-  part-more lo hi h l =
+  pub part_more : (lo hi : ℕ) → lo < hi → hi ≤ length list → part list lo hi ≡ at list lo ∷ part list (lo + 1) hi
+  part_more lo hi h l =
       ap₂ take (let z : hi - lo ≡ suc (hi - (lo + 1)) = omega arith in z)
       (drop-cons list lo 0 (omega arith) ∙ ap (λ n. at list lo ∷ drop n list) (sym (add-one lo)))
 
@@ -37,10 +37,10 @@ module _ (list : List ℕ) where
   pub part_at : (lo hi i : ℕ) → i < hi - lo → at (part list lo hi) i ≡ at list (lo + i)
   part_at lo hi i h = rw (get_or-take, get_or-drop)
 
-pub bits-map : (f : ℕ → ℕ) (l : List ℕ) → ((i : ℕ) → i < length l → f (at l i) ≤ 1) → AllBits (map f l)
-bits-map f [] h i = omega arith
-bits-map f (x ∷ l) h zero = h 0 (omega arith)
-bits-map f (x ∷ l) h (suc i) = bits-map f l (λ j k. h (suc j) (omega arith)) i
+pub bits_map : (f : ℕ → ℕ) (l : List ℕ) → ((i : ℕ) → i < length l → f (at l i) ≤ 1) → AllBits (map f l)
+bits_map f [] h i = omega arith
+bits_map f (x ∷ l) h zero = h 0 (omega arith)
+bits_map f (x ∷ l) h (suc i) = bits_map f l (λ j k. h (suc j) (omega arith)) i
 
 -- ── The gathered word ───────────────────────────────────────────────────────────────────────
 
@@ -51,11 +51,11 @@ pub word_more : (seed word x n : ℕ) → word < suc seed * 2 ^ n → x ≤ 1 �
 word_more seed word x n h l = rw (pow-suc 2 n, ← mul_assoc (suc seed) (2 ^ n) 2) (omega arith)
 
 -- With as many bits or more the word may be larger.
-pub word-wider : (seed word m n : ℕ) → word < suc seed * 2 ^ m → m ≤ n → word < suc seed * 2 ^ n
-word-wider seed word m n h l = omega (arith, mul-le-mul_left (suc seed) (pow_mono {i = m} {j = n} l))
+pub word_wider : (seed word m n : ℕ) → word < suc seed * 2 ^ m → m ≤ n → word < suc seed * 2 ^ n
+word_wider seed word m n h l = omega (arith, mul-le-mul_left (suc seed) (pow_mono {i = m} {j = n} l))
 
-pub word_below : (w : ℕ) (l : List ℕ) → AllBits l → wordFrom w l < suc w * 2 ^ length l
-unfolding wordFrom
+pub word_below : (w : ℕ) (l : List ℕ) → AllBits l → word_from w l < suc w * 2 ^ length l
+unfolding word_from
 word_below w [] b = omega arith
 word_below w (x ∷ l) b =
     let k : suc (w * 2 + x) ≤ suc w * 2 = omega (arith, b 0) in
@@ -63,8 +63,8 @@ word_below w (x ∷ l) b =
     (omega (arith, word_below (w * 2 + x) l (λ i. b (suc i)), mul-le-mul_right (2 ^ length l) k))
 
 -- `gather` is asked with the seed alone, as a truth word that has nothing below it.
-pub seed-narrow : (seed n : ℕ) → Narrow (seed * 512) n → suc seed * 2 ^ n ≤ 264
-seed-narrow seed n h = subst (λ d. suc d * 2 ^ n ≤ 264) (let z : seed * 512 / 512 ≡ seed = omega arith in z) h
+pub seed_narrow : (seed n : ℕ) → Narrow (seed * 512) n → suc seed * 2 ^ n ≤ 264
+seed_narrow seed n h = subst (λ d. suc d * 2 ^ n ≤ 264) (let z : seed * 512 / 512 ≡ seed = omega arith in z) h
 
 ones_bit : (x : ℕ) → x ≤ 1 → ones x ≡ x
 unfolding ones lib.Count.ones_in
@@ -73,11 +73,11 @@ ones_bit (suc zero) h = refl
 ones_bit (suc (suc n)) h = absurd (omega arith)
 
 -- One bit more at the low end is one more where it is 1.
-pub ones-from : (w : ℕ) (l : List ℕ) → AllBits l → ones (wordFrom w l) ≡ ones w + total l
-unfolding wordFrom
-ones-from w [] b = omega arith
-ones-from w (x ∷ l) b = omega (arith, ones-from (w * 2 + x) l (λ i. b (suc i)), ones_cat 1 w x (omega (arith, b 0)), ones_bit x (b 0))
+pub ones_from : (w : ℕ) (l : List ℕ) → AllBits l → ones (word_from w l) ≡ ones w + total l
+unfolding word_from
+ones_from w [] b = omega arith
+ones_from w (x ∷ l) b = omega (arith, ones_from (w * 2 + x) l (λ i. b (suc i)), ones_cat 1 w x (omega (arith, b 0)), ones_bit x (b 0))
 
-pub ones-few : (l : List ℕ) → AllBits l → total l ≤ length l
-ones-few [] b = omega arith
-ones-few (x ∷ l) b = omega (arith, b 0, ones-few l (λ i. b (suc i)))
+pub ones_few : (l : List ℕ) → AllBits l → total l ≤ length l
+ones_few [] b = omega arith
+ones_few (x ∷ l) b = omega (arith, b 0, ones_few l (λ i. b (suc i)))

@@ -2,7 +2,7 @@
 // gathered behind, which picks a part of the index table: 0, where the number of ones decides. A selector has a value for each row of inputs, and the seed 32.
 // Required of `put_truths`: known gate kinds with at most 8 inputs, a selector with 3, which rule 5 makes sure of.
 ghost use Rattle.std.specs.Prelude.{◌≡◌, ℕ, suc, ◌+◌, ◌-◌, ◌<◌, ◌≤◌, min, length};
-ghost use Rattle.theory.specs.Gate.{gateBy};
+ghost use Rattle.theory.specs.Gate.{gate_by};
 ghost use Rattle.graph.specs.Columns.{at};
 ghost use Rattle.gates.specs.inner.Gates.{picked, Reckons, Table};
 
@@ -24,7 +24,7 @@ fn all(n: u32, k: u32) -> u32
 // The value of a gate that has n inputs, of which k are 1.
 fn gate_by(kind: u8, n: u32, k: u32) -> u32
     requires { (kind < 10) × (k ≤ n) }
-    ensures { result ≡ gateBy kind n k }
+    ensures { result ≡ gate_by kind n k }
 {
     match kind {
         // Output, buffer, inverter.

@@ -3,12 +3,12 @@
 ghost use Rattle.std.specs.Prelude.{◌≡◌, List, map, ℕ, suc, ◌-◌, ◌*◌, ◌^◌, ◌<◌, ◌≤◌};
 ghost use Rattle.theory.specs.Gate.{gate};
 ghost use Rattle.graph.specs.Columns.{at};
-ghost use Rattle.gates.specs.inner.Gates.{part, wordFrom, Reckons, Table, InputRows, evaluated, Evaluable, Truths};
+ghost use Rattle.gates.specs.inner.Gates.{part, word_from, Reckons, Table, InputRows, evaluated, Evaluable, Truths};
 
 // The signals listed from place `start` up to `end` in one word behind `seed`, the first one highest.
 fn gather(list: &[u16], start: usize, end: usize, seed: usize, sig: &[u8]) -> usize
     requires { InputRows (seed * 512) list.now start end sig.now }
-    ensures { (result ≡ wordFrom seed (map (at sig.now) (part list.now start end))) × (result < suc seed * 2 ^ (end - start)) }
+    ensures { (result ≡ word_from seed (map (at sig.now) (part list.now start end))) × (result < suc seed * 2 ^ (end - start)) }
 {
     let mut word = seed;
     let mut j = start;

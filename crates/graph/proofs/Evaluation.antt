@@ -1,9 +1,9 @@
 -- The evaluation order, all of whose nodes are taken: it has all nodes, or there is a loop without a register.
---   stuck-loop          nodes each of which another of them feeds without a register: a loop without a register
---   ordered-no-loop     an order of all nodes: no such loop
---   going-found         all of the order is taken: it has all nodes, or there is a loop
---   found-told          whether it has all nodes tells whether there is a loop
---   found-ordered       without a loop it has all nodes
+--   stuck_loop          nodes each of which another of them feeds without a register: a loop without a register
+--   ordered_no_loop     an order of all nodes: no such loop
+--   going_found         all of the order is taken: it has all nodes, or there is a loop
+--   found_told          whether it has all nodes tells whether there is a loop
+--   found_ordered       without a loop it has all nodes
 use Prim.Native.Nat.{ℕ, zero, suc, ◌+◌, ◌≤◌, ◌<◌}
 use native.Mathlib.Omega.{arith}
 use native.Mathlib.Decide.{ℕ_discrete, dec_lt}
@@ -12,52 +12,52 @@ use mathlib.Core.List.{List, []}
 use borrow.Author.Tests.{lt-ltb, le-ltb}
 use lib.Dec.{ltb}
 use Rattle.theory.specs.Graph.{Graph, Wired}
-use Rattle.theory.specs.Walk.{Walk, one, more, registers, walkSteps, Loop}
+use Rattle.theory.specs.Walk.{Walk, one, more, registers, walk_steps, Loop}
 use Rattle.theory.proofs.walks.Walks.{walk_start}
-use Rattle.theory.proofs.walks.Loops.{Bare, bare-one, bare-more, long-loop}
-use Rattle.graph.specs.Columns.{at, columnGraph}
+use Rattle.theory.proofs.walks.Loops.{Bare, bare_one, bare_more, long_loop}
+use Rattle.graph.specs.Columns.{at, column_graph}
 use Rattle.graph.specs.Layers.{Told}
 use Rattle.graph.specs.inner.Sort.{Ordered}
 use Rattle.graph.specs.inner.Order.{Going, Found}
-use Rattle.graph.proofs.Answers.{laid-wired}
-use Rattle.graph.proofs.Once.{once-whole, left_out}
-use Rattle.graph.proofs.Stage.{stage-few}
+use Rattle.graph.proofs.Answers.{laid_wired}
+use Rattle.graph.proofs.Once.{once_whole, left_out}
+use Rattle.graph.proofs.Stage.{stage_few}
 
 -- ── Loops ───────────────────────────────────────────────────────────────────────────────────
 
 -- From one of them back to one that feeds it, as many times as there are nodes.
 module _ {G : Graph} {count : ℕ → ℕ} (w : Wired G) (P : ℕ → Type 0)
     (fed : (v : ℕ) → v < G.nodes → P v → (e : ℕ) × (e < G.edges) × (G.dst e ≡ v) × (count e ≡ 0) × P (G.src e)) where
-  walk-back : (z : ℕ) → z < G.nodes → P z → (n : ℕ) → (u : ℕ) × (u < G.nodes) × P u × Bare G count u z n
-  walk-back z h p zero = (z, h, p, bare-one G count z h)
-  walk-back z h p (suc n) =
-      let b = walk-back z h p n in
+  walk_back : (z : ℕ) → z < G.nodes → P z → (n : ℕ) → (u : ℕ) × (u < G.nodes) × P u × Bare G count u z n
+  walk_back z h p zero = (z, h, p, bare_one G count z h)
+  walk_back z h p (suc n) =
+      let b = walk_back z h p n in
       let f = fed b.0 b.1 b.2 in
-      (G.src f.0, w.src-in f.0 f.1, f.4, bare-more w f.0 b.0 z n f.1 f.2 f.3 b.3)
+      (G.src f.0, w.src_in f.0 f.1, f.4, bare_more w f.0 b.0 z n f.1 f.2 f.3 b.3)
 
-  stuck-loop : (v : ℕ) → v < G.nodes → P v → Loop G count
-  stuck-loop v h p = let b = (walk-back v h p G.nodes).3 in long-loop w count b.walk b.bare (omega (arith, b.long))
+  stuck_loop : (v : ℕ) → v < G.nodes → P v → Loop G count
+  stuck_loop v h p = let b = (walk_back v h p G.nodes).3 in long_loop w count b.walk b.bare (omega (arith, b.long))
 
 -- A walk without a register goes up in the order, so a loop would lead from each place of its node to an earlier one.
 module _ {nodes edges : ℕ} {from to count order : List ℕ} (s : Ordered nodes edges from to count order) (kind : List ℕ) where
-  lower : {u v : ℕ} (p : Walk (columnGraph nodes edges kind from to) u v) → registers (at count) p ≡ 0
-      → (i : ℕ) → i < nodes → at order i ≡ v → (j : ℕ) × (at order j ≡ u) × (j + walkSteps p ≤ i)
-  unfolding registers walkSteps
+  lower : {u v : ℕ} (p : Walk (column_graph nodes edges kind from to) u v) → registers (at count) p ≡ 0
+      → (i : ℕ) → i < nodes → at order i ≡ v → (j : ℕ) × (at order j ≡ u) × (j + walk_steps p ≤ i)
+  unfolding registers walk_steps
   lower (one h) c i l q = (i, q, omega arith)
   lower (more e h p) c i l q =
-      let t = s.sources-first i e l h (sym q) (omega arith) in
+      let t = s.sources_first i e l h (sym q) (omega arith) in
       let b = lower p (omega arith) t.place (omega (arith, t.within)) t.holds in
       (b.0, b.1, omega (arith, b.2, t.within))
 
-  no_place : (k : Loop (columnGraph nodes edges kind from to) (at count)) (n i : ℕ) → i < n → i < nodes → ¬ (at order i ≡ k.node)
+  no_place : (k : Loop (column_graph nodes edges kind from to) (at count)) (n i : ℕ) → i < n → i < nodes → ¬ (at order i ≡ k.node)
   no_place k zero i h l q = absurd (let z : ⊥ = omega arith in z)
   no_place k (suc n) i h l q =
       let b = lower k.walk k.bare i l q in
       no_place k n b.0 (omega (arith, b.2, k.moves)) (omega (arith, b.2)) b.1
 
-  ordered-no-loop : ¬ Loop (columnGraph nodes edges kind from to) (at count)
-  ordered-no-loop k =
-      let t = s.every-node k.node (walk_start k.walk) in
+  ordered_no_loop : ¬ Loop (column_graph nodes edges kind from to) (at count)
+  ordered_no_loop k =
+      let t = s.every_node k.node (walk_start k.walk) in
       no_place k nodes t.place t.within t.within t.holds
 
 -- ── The end ─────────────────────────────────────────────────────────────────────────────────
@@ -66,11 +66,11 @@ module _ {nodes edges : ℕ} {from to count ins first outs leave past order mark
     (s : Going nodes edges from to count ins first outs leave past order mark placed i) (h : placed ≤ i) where
   all_placed : placed ≡ nodes → Ordered nodes edges from to count order
   all_placed q =
-      let inside : (p : ℕ) → p < nodes → at order p < nodes = λ p l. s.stage.listed.nodes-only p (omega arith) in
+      let inside : (p : ℕ) → p < nodes → at order p < nodes = λ p l. s.stage.listed.nodes_only p (omega arith) in
       record {
-        nodes-only = inside;
-        every-node = λ v. once-whole order nodes v (λ p m l k. s.stage.listed.once p m l (omega arith)) inside;
-        sources-first = λ p e l. s.stage.sources-first p e (omega arith);
+        nodes_only = inside;
+        every_node = λ v. once_whole order nodes v (λ p m l k. s.stage.listed.once p m l (omega arith)) inside;
+        sources_first = λ p e l. s.stage.sources_first p e (omega arith);
       }
 
   -- A node without a place waits for an open edge, and that leaves another, since all nodes of the order are taken.
@@ -85,28 +85,28 @@ module _ {nodes edges : ℕ} {from to count ins first outs leave past order mark
           let t = s.stage.listed.stands (at from e) (s.stage.laid.from_in e k) q in
           absurd (s.spent t.place e (omega (arith, t.within)) k (sym t.holds) c)
 
-  some-waits : placed < nodes → (kind : List ℕ) → Loop (columnGraph nodes edges kind from to) (at count)
-  some-waits l kind =
+  some_waits : placed < nodes → (kind : List ℕ) → Loop (column_graph nodes edges kind from to) (at count)
+  some_waits l kind =
       let o = left_out order placed nodes l in
-      stuck-loop (laid-wired s.stage.laid kind) (λ v. at mark v ≡ 0) fed o.0 o.1 (bare o.0 o.1 o.2 (ℕ_discrete (at mark o.0) 0))
+      stuck_loop (laid_wired s.stage.laid kind) (λ v. at mark v ≡ 0) fed o.0 o.1 (bare o.0 o.1 o.2 (ℕ_discrete (at mark o.0) 0))
     where
       bare : (v : ℕ) → v < nodes → ((p : ℕ) → p < placed → ¬ (at order p ≡ v)) → Dec (at mark v ≡ 0) → at mark v ≡ 0
       bare v k n (yes q) = q
       bare v k n (no q) = let t = s.stage.listed.stands v k q in absurd (n t.place t.within t.holds)
 
-  pub going-found : Found nodes edges from to count placed order
-  going-found = record { few = stage-few s.stage; whole = all_placed; stuck = some-waits }
+  pub going_found : Found nodes edges from to count placed order
+  going_found = record { few = stage_few s.stage; whole = all_placed; stuck = some_waits }
 
 module _ {nodes edges : ℕ} {from to count : List ℕ} {placed : ℕ} {order : List ℕ} (s : Found nodes edges from to count placed order) where
-  pub found-told : (kind : List ℕ) → Told (ltb placed nodes) (Loop (columnGraph nodes edges kind from to) (at count))
-  found-told kind = go (dec_lt placed nodes)
+  pub found_told : (kind : List ℕ) → Told (ltb placed nodes) (Loop (column_graph nodes edges kind from to) (at count))
+  found_told kind = go (dec_lt placed nodes)
     where
-      go : Dec (placed < nodes) → Told (ltb placed nodes) (Loop (columnGraph nodes edges kind from to) (at count))
+      go : Dec (placed < nodes) → Told (ltb placed nodes) (Loop (column_graph nodes edges kind from to) (at count))
       go (yes l) = rw (lt-ltb placed nodes l) (s.stuck l kind)
-      go (no l) = rw (le-ltb placed nodes (omega arith)) (ordered-no-loop (s.whole (omega (arith, s.few))) kind)
+      go (no l) = rw (le-ltb placed nodes (omega arith)) (ordered_no_loop (s.whole (omega (arith, s.few))) kind)
 
-  pub found-ordered : ((kind : List ℕ) → ¬ Loop (columnGraph nodes edges kind from to) (at count)) → Ordered nodes edges from to count order
-  found-ordered none = go (dec_lt placed nodes)
+  pub found_ordered : ((kind : List ℕ) → ¬ Loop (column_graph nodes edges kind from to) (at count)) → Ordered nodes edges from to count order
+  found_ordered none = go (dec_lt placed nodes)
     where
       go : Dec (placed < nodes) → Ordered nodes edges from to count order
       go (yes l) = absurd (none [] (s.stuck l []))

@@ -1,8 +1,8 @@
 -- Lists that loops fill, one store a turn.
---   fill-with           from the front: one element further, whatever is said of each
+--   fill_with           from the front: one element further, whatever is said of each
 --   fill_more           so where each is f of its place
---   appended-none, appended-more, appended-cut    from a place on: none yet, one further, all of them
---   filtered-none, filtered-hit, filtered-miss    with the members of another list that have a property: none yet; the next has it, or not
+--   appended_none, appended_more, appended_cut    from a place on: none yet, one further, all of them
+--   filtered_none, filtered_hit, filtered_miss    with the members of another list that have a property: none yet; the next has it, or not
 use Prim.Native.Nat.{ℕ, suc, ◌+◌, ◌-◌, ◌≤◌, ◌<◌}
 use native.Mathlib.Omega.{arith}
 use native.Mathlib.Numerals.{add-one}
@@ -14,13 +14,13 @@ use lib.Seq.{get_or-set_same, get_or-set_other}
 use Rattle.graph.specs.Columns.{at}
 use Rattle.graph.specs.inner.Sort.{Stands}
 use Rattle.graph.specs.inner.Lists.{Appended, FilteredAt, Filtered}
-use Rattle.graph.proofs.Sets.{set-stands}
+use Rattle.graph.proofs.Sets.{set_stands}
 
 -- ── From the front ──────────────────────────────────────────────────────────────────────────
 
-pub fill-with : (P : ℕ → ℕ → Type 0) (xs : List ℕ) (v t : ℕ) → v < length xs → P v t → ((k : ℕ) → k < v → P k (at xs k))
+pub fill_with : (P : ℕ → ℕ → Type 0) (xs : List ℕ) (v t : ℕ) → v < length xs → P v t → ((k : ℕ) → k < v → P k (at xs k))
     → (k : ℕ) → k < v + 1 → P k (at (set xs v t) k)
-fill-with P xs v t h p w k l = go (ℕ_discrete k v)
+fill_with P xs v t h p w k l = go (ℕ_discrete k v)
   where
     go : Dec (k ≡ v) → P k (at (set xs v t) k)
     go (yes z) = subst (λ x. P x (at (set xs v t) x)) (sym z) (subst (P v) (sym (get_or-set_same xs v t 0 h)) p)
@@ -28,17 +28,17 @@ fill-with P xs v t h p w k l = go (ℕ_discrete k v)
 
 pub fill_more : (f : ℕ → ℕ) (xs : List ℕ) (v t : ℕ) → v < length xs → t ≡ f v → ((k : ℕ) → k < v → at xs k ≡ f k)
     → (k : ℕ) → k < v + 1 → at (set xs v t) k ≡ f k
-fill_more f = fill-with (λ k x. x ≡ f k)
+fill_more f = fill_with (λ k x. x ≡ f k)
 
 -- ── From a place on ─────────────────────────────────────────────────────────────────────────
 
 module _ (f : ℕ → ℕ) where
-  pub appended-none : (old : List ℕ) (lo start : ℕ) → Appended f old old lo lo start
-  appended-none old lo start = record { rows = refl; kept = λ j h. refl; added = λ k h. absurd (let z : ⊥ = omega arith in z) }
+  pub appended_none : (old : List ℕ) (lo start : ℕ) → Appended f old old lo lo start
+  appended_none old lo start = record { rows = refl; kept = λ j h. refl; added = λ k h. absurd (let z : ⊥ = omega arith in z) }
 
-  pub appended-more : (old new : List ℕ) (lo k start n x : ℕ) → Appended f old new lo k start → lo ≤ k → n + lo ≡ start + k → n < length new → x ≡ f k
+  pub appended_more : (old new : List ℕ) (lo k start n x : ℕ) → Appended f old new lo k start → lo ≤ k → n + lo ≡ start + k → n < length new → x ≡ f k
       → Appended f old (set new n x) lo (k + 1) start
-  appended-more old new lo k start n x s l q h e = record {
+  appended_more old new lo k start n x s l q h e = record {
     rows = length-set new n x ∙ s.rows;
     kept = λ j m. get_or-set_other new n j x 0 (let z : ¬ (j ≡ n) = λ y. omega arith in z) ∙ s.kept j m;
     added = λ i m. go i m (ℕ_discrete (lo + i) k);
@@ -50,15 +50,15 @@ module _ (f : ℕ → ℕ) where
       go i m (no y) = get_or-set_other new n (start + i) x 0 (let z : ¬ (start + i ≡ n) = λ w. omega arith in z) ∙ s.added i (omega arith)
 
   -- All of those up to hi are put, which may be none.
-  pub appended-cut : (old new : List ℕ) (lo hi k start n : ℕ) → Appended f old new lo k start → lo ≤ k → hi ≤ k → k ≤ lo + (hi - lo) → n + lo ≡ start + k
+  pub appended_cut : (old new : List ℕ) (lo hi k start n : ℕ) → Appended f old new lo k start → lo ≤ k → hi ≤ k → k ≤ lo + (hi - lo) → n + lo ≡ start + k
       → (n ≡ start + (hi - lo)) × Appended f old new lo hi start
-  appended-cut old new lo hi k start n s l h u q = (omega arith, record { rows = s.rows; kept = s.kept; added = λ i m. s.added i (omega arith) })
+  appended_cut old new lo hi k start n s l h u q = (omega arith, record { rows = s.rows; kept = s.kept; added = λ i m. s.added i (omega arith) })
 
 -- ── With the members that have a property ───────────────────────────────────────────────────
 
 module _ (P : ℕ → Type 0) (old : List ℕ) where
-  pub filtered-none : (new : List ℕ) → Filtered P old 0 new 0
-  filtered-none new = record { few = omega arith; each = λ i h. absurd (let z : ⊥ = omega arith in z); every = λ p h. absurd (let z : ⊥ = omega arith in z) }
+  pub filtered_none : (new : List ℕ) → Filtered P old 0 new 0
+  filtered_none new = record { few = omega arith; each = λ i h. absurd (let z : ⊥ = omega arith in z); every = λ p h. absurd (let z : ⊥ = omega arith in z) }
 
   module _ (i : ℕ) (new : List ℕ) (r : ℕ) (s : Filtered P old i new r) where
     wider : (j : ℕ) → j < r → FilteredAt P old (suc i) new j
@@ -66,8 +66,8 @@ module _ (P : ℕ → Type 0) (old : List ℕ) where
         let k = s.each j h in
         record { place = k.place; within = omega (arith, k.within); same = k.same; has = k.has; before = k.before }
 
-    pub filtered-miss : ¬ P (at old i) → Filtered P old (i + 1) new r
-    filtered-miss z =
+    pub filtered_miss : ¬ P (at old i) → Filtered P old (i + 1) new r
+    filtered_miss z =
         rw (add-one i) (record {
           few = omega (arith, s.few);
           each = wider;
@@ -79,8 +79,8 @@ module _ (P : ℕ → Type 0) (old : List ℕ) where
         below p h k (no e) = omega arith
 
     -- What came before it and has the property stands before it already.
-    pub filtered-hit : P (at old i) → r < length new → Filtered P old (i + 1) (set new r (at old i)) (r + 1)
-    filtered-hit z l =
+    pub filtered_hit : P (at old i) → r < length new → Filtered P old (i + 1) (set new r (at old i)) (r + 1)
+    filtered_hit z l =
         rw (add-one i, add-one r) (record {
           few = omega (arith, s.few);
           each = λ j h. one j h (ℕ_discrete j r);
@@ -99,7 +99,7 @@ module _ (P : ℕ → Type 0) (old : List ℕ) where
           within = omega arith;
           same = sym last;
           has = subst P (sym last) z;
-          before = λ q m k. set-stands new r (at old i) r (at old q) (omega arith) (s.every q m k);
+          before = λ q m k. set_stands new r (at old i) r (at old q) (omega arith) (s.every q m k);
         })
         one j h (no e) =
             let k = wider j (omega arith) in
@@ -109,11 +109,11 @@ module _ (P : ℕ → Type 0) (old : List ℕ) where
               within = k.within;
               same = k.same ∙ sym o;
               has = subst P (sym o) k.has;
-              before = λ q m y. set-stands new r (at old i) j (at old q) (omega arith) (k.before q m y);
+              before = λ q m y. set_stands new r (at old i) j (at old q) (omega arith) (k.before q m y);
             }
 
         all : (p : ℕ) → p < suc i → P (at old p) → Dec (p ≡ i) → Stands new' (suc r) (at old p)
         all p h k (yes e) = record { place = r; within = omega arith; holds = last ∙ ap (at old) (sym e) }
         all p h k (no e) =
-            let t = set-stands new r (at old i) r (at old p) (omega arith) (s.every p (omega arith) k) in
+            let t = set_stands new r (at old i) r (at old p) (omega arith) (s.every p (omega arith) k) in
             record { place = t.place; within = omega (arith, t.within); holds = t.holds }

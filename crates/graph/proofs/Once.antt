@@ -1,10 +1,10 @@
 -- Lists without repeats, and marks for their members.
---   once-room           k different nodes below n, and one more: k is below n
---   once-few            no more different nodes than there are
---   once-whole          n different nodes below n are all of them
+--   once_room           k different nodes below n, and one more: k is below n
+--   once_few            no more different nodes than there are
+--   once_whole          n different nodes below n are all of them
 --   left_out            fewer than n places leave out a number below n
---   listed-none         no node yet
---   listed-room         a node without a mark: there is room for it
+--   listed_none         no node yet
+--   listed_room         a node without a mark: there is room for it
 --   listed_more         it joins the list
 use Prim.Native.Nat.{ℕ, zero, suc, ◌+◌, ◌≤◌, ◌<◌}
 use native.Mathlib.Omega.{arith}
@@ -15,16 +15,16 @@ use mathlib.Core.Logic.{◌⊎◌, inl, inr, ⊎_elim}
 use lib.ListN.{length, set}
 use lib.Seq.{get_or-set_same, get_or-set_other}
 use Rattle.theory.proofs.numbers.Find.{any, all?, not?}
-use Rattle.theory.proofs.numbers.Pigeon.{no-injection, cons}
+use Rattle.theory.proofs.numbers.Pigeon.{no_injection, cons}
 use Rattle.graph.specs.Columns.{at}
 use Rattle.graph.specs.inner.Sort.{Stands}
 use Rattle.graph.specs.inner.Lists.{Once, Listed}
-use Rattle.graph.proofs.Sets.{set-stands}
-use Rattle.graph.proofs.Fills.{fill-with}
+use Rattle.graph.proofs.Sets.{set_stands}
+use Rattle.graph.proofs.Fills.{fill_with}
 
 -- Else the first n of them and the one more are n + 1 different numbers below n.
-pub once-room : (xs : List ℕ) (k n v : ℕ) → Once xs k → ((p : ℕ) → p < k → at xs p < n) → v < n → ((p : ℕ) → p < k → ¬ (at xs p ≡ v)) → k < n
-once-room xs k n v once inside h other = go (dec_lt k n)
+pub once_room : (xs : List ℕ) (k n v : ℕ) → Once xs k → ((p : ℕ) → p < k → at xs p < n) → v < n → ((p : ℕ) → p < k → ¬ (at xs p ≡ v)) → k < n
+once_room xs k n v once inside h other = go (dec_lt k n)
   where
     low : n ≤ k → (i : ℕ) → i ≤ n → cons v (at xs) i < n
     low m zero l = h
@@ -37,24 +37,24 @@ once-room xs k n v once inside h other = go (dec_lt k n)
 
     go : Dec (k < n) → k < n
     go (yes l) = l
-    go (no l) = absurd (no-injection n (cons v (at xs)) (low (omega arith)) (differ (omega arith)))
+    go (no l) = absurd (no_injection n (cons v (at xs)) (low (omega arith)) (differ (omega arith)))
 
-pub once-few : (xs : List ℕ) (k n : ℕ) → Once xs k → ((p : ℕ) → p < k → at xs p < n) → k ≤ n
-once-few xs zero n once inside = omega arith
-once-few xs (suc k) n once inside =
-    once-room xs k n (at xs k) (λ p q l h. once p q l (omega arith)) (λ p h. inside p (omega arith)) (inside k (omega arith)) (λ p h. once p k h (omega arith))
+pub once_few : (xs : List ℕ) (k n : ℕ) → Once xs k → ((p : ℕ) → p < k → at xs p < n) → k ≤ n
+once_few xs zero n once inside = omega arith
+once_few xs (suc k) n once inside =
+    once_room xs k n (at xs k) (λ p q l h. once p q l (omega arith)) (λ p h. inside p (omega arith)) (inside k (omega arith)) (λ p h. once p k h (omega arith))
 
-pub once-whole : (xs : List ℕ) (n v : ℕ) → Once xs n → ((p : ℕ) → p < n → at xs p < n) → v < n → Stands xs n v
-once-whole xs n v once inside h =
+pub once_whole : (xs : List ℕ) (n v : ℕ) → Once xs n → ((p : ℕ) → p < n → at xs p < n) → v < n → Stands xs n v
+once_whole xs n v once inside h =
     ⊎_elim
     (λ r. record { place = r.0; within = r.1; holds = r.2 })
-    (λ none. absurd (let z : ⊥ = omega (arith, once-room xs n n v once inside h none) in z))
+    (λ none. absurd (let z : ⊥ = omega (arith, once_room xs n n v once inside h none) in z))
     (any n (λ p l. ℕ_discrete (at xs p) v))
 
 -- Else each number has its own place.
 pub left_out : (xs : List ℕ) (k n : ℕ) → k < n → (v : ℕ) × (v < n) × ((p : ℕ) → p < k → ¬ (at xs p ≡ v))
 left_out xs k n h =
-    ⊎_elim (λ r. r) (λ none. absurd (no-injection k place (λ v l. (found none v (omega arith)).0) (λ u v l m. differ none u v l m)))
+    ⊎_elim (λ r. r) (λ none. absurd (no_injection k place (λ v l. (found none v (omega arith)).0) (λ u v l m. differ none u v l m)))
     (any n (λ v l. all? k (λ p m. not? (ℕ_discrete (at xs p) v))))
   where
     place : ℕ → ℕ
@@ -73,9 +73,9 @@ left_out xs k n h =
         let q : u ≡ v = sym (found none u (omega arith)).1 ∙ ap (at xs) e ∙ (found none v (omega arith)).1 in
         omega arith
 
-pub listed-none : (nodes : ℕ) (list mark : List ℕ) → ((v : ℕ) → v < nodes → at mark v ≡ 0) → Listed nodes 0 list mark
-listed-none nodes list mark bare = record {
-  nodes-only = λ p h. absurd (let z : ⊥ = omega arith in z);
+pub listed_none : (nodes : ℕ) (list mark : List ℕ) → ((v : ℕ) → v < nodes → at mark v ≡ 0) → Listed nodes 0 list mark
+listed_none nodes list mark bare = record {
+  nodes_only = λ p h. absurd (let z : ⊥ = omega arith in z);
   once = λ p q l h. absurd (let z : ⊥ = omega arith in z);
   marked = λ p h. absurd (let z : ⊥ = omega arith in z);
   stands = λ v h z. absurd (z (bare v h));
@@ -85,14 +85,14 @@ module _ (nodes n : ℕ) (list mark : List ℕ) (s : Listed nodes n list mark) (
   other : (p : ℕ) → p < n → ¬ (at list p ≡ v)
   other p l e = omega (arith, s.marked p l, ap (at mark) e)
 
-  pub listed-room : n < nodes
-  listed-room = once-room list n nodes v s.once s.nodes-only h other
+  pub listed_room : n < nodes
+  listed_room = once_room list n nodes v s.once s.nodes_only h other
 
   pub listed_more : n < length list → v < length mark → Listed nodes (n + 1) (set list n v) (set mark v 1)
   listed_more a b = record {
-    nodes-only = fill-with (λ p x. x < nodes) list n v a h s.nodes-only;
+    nodes_only = fill_with (λ p x. x < nodes) list n v a h s.nodes_only;
     once = λ p q l m. differ p q l (ℕ_discrete q n) m;
-    marked = fill-with (λ p x. at (set mark v 1) x ≡ 1) list n v a (get_or-set_same mark v 1 0 b) (λ p l. get_or-set_other mark v (at list p) 1 0 (other p l) ∙ s.marked p l);
+    marked = fill_with (λ p x. at (set mark v 1) x ≡ 1) list n v a (get_or-set_same mark v 1 0 b) (λ p l. get_or-set_other mark v (at list p) 1 0 (other p l) ∙ s.marked p l);
     stands = λ w l z. one w l z (ℕ_discrete w v);
   }
     where
@@ -108,5 +108,5 @@ module _ (nodes n : ℕ) (list mark : List ℕ) (s : Listed nodes n list mark) (
       one : (w : ℕ) → w < nodes → ¬ (at (set mark v 1) w ≡ 0) → Dec (w ≡ v) → Stands new (n + 1) w
       one w l z (yes e) = record { place = n; within = omega arith; holds = get_or-set_same list n v 0 a ∙ sym e }
       one w l z (no e) =
-          let t = set-stands list n v n w (omega arith) (s.stands w l (λ y. z (get_or-set_other mark v w 1 0 e ∙ y))) in
+          let t = set_stands list n v n w (omega arith) (s.stands w l (λ y. z (get_or-set_other mark v w 1 0 e ∙ y))) in
           record { place = t.place; within = omega (arith, t.within); holds = t.holds }

@@ -1,5 +1,5 @@
 -- Parts of lists, through a function.
---   part-map            over a stretch the one list has f of the other's members
+--   part_map            over a stretch the one list has f of the other's members
 --   map_at              a member of a list through a function
 use Prim.Native.Nat.{ℕ, zero, suc, ◌+◌, ◌≤◌, ◌<◌}
 use native.Mathlib.Omega.{arith}
@@ -9,13 +9,13 @@ use lib.ListN.{length, take, drop}
 use lib.Seq.{drop-cons}
 use Rattle.graph.specs.Columns.{at}
 
-pub part-map : (f : ℕ → ℕ) (xs ys : List ℕ) (n a b : ℕ) → a + n ≤ length ys → b + n ≤ length xs → ((k : ℕ) → k < n → at ys (a + k) ≡ f (at xs (b + k)))
+pub part_map : (f : ℕ → ℕ) (xs ys : List ℕ) (n a b : ℕ) → a + n ≤ length ys → b + n ≤ length xs → ((k : ℕ) → k < n → at ys (a + k) ≡ f (at xs (b + k)))
     → take n (drop a ys) ≡ map f (take n (drop b xs))
-part-map f xs ys zero a b h l w = refl
-part-map f xs ys (suc n) a b h l w =
+part_map f xs ys zero a b h l w = refl
+part_map f xs ys (suc n) a b h l w =
     rw (drop-cons xs b 0 (omega arith), drop-cons ys a 0 (omega arith))
     (ap₂ ◌∷◌ (moved a b 0 (omega arith) (omega arith) (w 0 (omega arith)))
-    (part-map f xs ys n (suc a) (suc b) (omega arith) (omega arith) (λ k m. moved (suc a + k) (suc b + k) (suc k) (omega arith) (omega arith) (w (suc k) (omega arith)))))
+    (part_map f xs ys n (suc a) (suc b) (omega arith) (omega arith) (λ k m. moved (suc a + k) (suc b + k) (suc k) (omega arith) (omega arith) (w (suc k) (omega arith)))))
   where
     moved : (i j k : ℕ) → i ≡ a + k → b + k ≡ j → at ys (a + k) ≡ f (at xs (b + k)) → at ys i ≡ f (at xs j)
     moved i j k p q e = ap (at ys) p ∙ e ∙ ap (λ m. f (at xs m)) q

@@ -1,15 +1,15 @@
 -- Marks that spread, and the queue of the marked nodes.
 --   Spreading                  the invariant of a loop that spreads marks
---   spread-still, spread_none  to nodes that have a mark; to no node
---   spread-then                to some nodes and then to others
---   queued-few, mark-room      no more are in the queue than there are nodes, and fewer where one has no mark
---   queued-stands              a marked node stands in the queue
---   spread-seen, spread-new    to one node, which has a mark or gets one
+--   spread_still, spread_none  to nodes that have a mark; to no node
+--   spread_then                to some nodes and then to others
+--   queued_few, mark_room      no more are in the queue than there are nodes, and fewer where one has no mark
+--   queued_stands              a marked node stands in the queue
+--   spread_seen, spread_new    to one node, which has a mark or gets one
 --   Fed                        v is the end of an edge that leaves a node at one of the places from lo up to hi of the queue
---   ends-none, ends-turn       over the edges at places of a list: none yet, one further
---   pins-none, pins-turn, pins-skip    over the nodes of a kind: none yet, one further
---   node-ends                  the edges that leave a node stand at its places
---   fed-none, fed-turn         over the nodes in the queue: none yet, one further
+--   ends_none, ends_turn       over the edges at places of a list: none yet, one further
+--   pins_none, pins_turn, pins_skip    over the nodes of a kind: none yet, one further
+--   node_ends                  the edges that leave a node stand at its places
+--   fed_none, fed_turn         over the nodes in the queue: none yet, one further
 use Prim.Native.Nat.{ℕ, ◌+◌, ◌≤◌, ◌<◌}
 use native.Mathlib.Omega.{arith}
 use native.Mathlib.Decide.{ℕ_discrete}
@@ -21,7 +21,7 @@ use lib.Seq.{get_or-set_same, get_or-set_other}
 use Rattle.graph.specs.Columns.{at}
 use Rattle.graph.specs.inner.Sort.{Stands}
 use Rattle.graph.specs.inner.Layers.{Queued, EndOf, EndsIn, Spread, Links}
-use Rattle.graph.proofs.Once.{once-few, listed-room, listed_more}
+use Rattle.graph.proofs.Once.{once_few, listed_room, listed_more}
 
 -- A loop that spreads marks: at i of lo up to hi they have spread to the nodes of `Fed i`.
 pub record Spreading (nodes lo hi : ℕ) (Fed : ℕ → ℕ → Type 0) (queue₀ marks₀ : List ℕ) (held₀ : ℕ) (queue marks : List ℕ) (held i : ℕ) : Type 0 where
@@ -32,15 +32,15 @@ pub record Spreading (nodes lo hi : ℕ) (Fed : ℕ → ℕ → Type 0) (queue�
 -- ── To some nodes, and then to others ───────────────────────────────────────────────────────
 
 module _ {nodes : ℕ} {q m : List ℕ} {h : ℕ} where
-  pub spread-still : {A : ℕ → Type 0} → Queued nodes q m h → ((v : ℕ) → v < nodes → A v → at m v ≡ 1) → Spread nodes A q m h q m h
-  spread-still s fed = record { queued = s; longer = omega arith; front = λ i l. refl; stay = λ v l e. e; fed = fed; only = λ v l e. inl e }
+  pub spread_still : {A : ℕ → Type 0} → Queued nodes q m h → ((v : ℕ) → v < nodes → A v → at m v ≡ 1) → Spread nodes A q m h q m h
+  spread_still s fed = record { queued = s; longer = omega arith; front = λ i l. refl; stay = λ v l e. e; fed = fed; only = λ v l e. inl e }
 
   pub spread_none : {A : ℕ → Type 0} → Queued nodes q m h → ((v : ℕ) → ¬ A v) → Spread nodes A q m h q m h
-  spread_none s none = spread-still s (λ v l a. absurd (none v a))
+  spread_none s none = spread_still s (λ v l a. absurd (none v a))
 
-  pub spread-then : {A B C : ℕ → Type 0} {q' m' q'' m'' : List ℕ} {h' h'' : ℕ} → ((v : ℕ) → C v → A v ⊎ B v) → ((v : ℕ) → A v ⊎ B v → C v)
+  pub spread_then : {A B C : ℕ → Type 0} {q' m' q'' m'' : List ℕ} {h' h'' : ℕ} → ((v : ℕ) → C v → A v ⊎ B v) → ((v : ℕ) → A v ⊎ B v → C v)
       → Spread nodes A q m h q' m' h' → Spread nodes B q' m' h' q'' m'' h'' → Spread nodes C q m h q'' m'' h''
-  spread-then apart both s t = record {
+  spread_then apart both s t = record {
     queued = t.queued;
     longer = omega (arith, s.longer, t.longer);
     front = λ i l. t.front i (omega (arith, s.longer)) ∙ s.front i l;
@@ -51,28 +51,28 @@ module _ {nodes : ℕ} {q m : List ℕ} {h : ℕ} where
 
 -- ── To one node ─────────────────────────────────────────────────────────────────────────────
 
-pub queued-few : {nodes held : ℕ} {queue marks : List ℕ} → Queued nodes queue marks held → held ≤ nodes
-queued-few {nodes} {held} {queue} s = once-few queue held nodes s.listed.once s.listed.nodes-only
+pub queued_few : {nodes held : ℕ} {queue marks : List ℕ} → Queued nodes queue marks held → held ≤ nodes
+queued_few {nodes} {held} {queue} s = once_few queue held nodes s.listed.once s.listed.nodes_only
 
-pub queued-stands : {nodes held v : ℕ} {queue marks : List ℕ} → Queued nodes queue marks held → v < nodes → at marks v ≡ 1 → Stands queue held v
-queued-stands {v = v} s l e = s.listed.stands v l (λ z. omega arith)
+pub queued_stands : {nodes held v : ℕ} {queue marks : List ℕ} → Queued nodes queue marks held → v < nodes → at marks v ≡ 1 → Stands queue held v
+queued_stands {v = v} s l e = s.listed.stands v l (λ z. omega arith)
 
 module _ {nodes v held : ℕ} {queue marks : List ℕ} (l : v < nodes) (s : Queued nodes queue marks held) where
-  pub mark-room : at marks v ≡ 0 → held < nodes
-  mark-room = listed-room nodes held queue marks s.listed v l
+  pub mark_room : at marks v ≡ 0 → held < nodes
+  mark_room = listed_room nodes held queue marks s.listed v l
 
-  pub spread-seen : ¬ (at marks v ≡ 0) → Spread nodes (λ u. u ≡ v) queue marks held queue marks held
-  spread-seen z =
+  pub spread_seen : ¬ (at marks v ≡ 0) → Spread nodes (λ u. u ≡ v) queue marks held queue marks held
+  spread_seen z =
       let t = s.listed.stands v l z in
-      spread-still s (λ u k e. ap (at marks) (e ∙ sym t.holds) ∙ s.listed.marked t.place t.within)
+      spread_still s (λ u k e. ap (at marks) (e ∙ sym t.holds) ∙ s.listed.marked t.place t.within)
 
-  pub spread-new : at marks v ≡ 0 → Spread nodes (λ u. u ≡ v) queue marks held (set queue held v) (set marks v 1) (held + 1)
-  spread-new z = record {
+  pub spread_new : at marks v ≡ 0 → Spread nodes (λ u. u ≡ v) queue marks held (set queue held v) (set marks v 1) (held + 1)
+  spread_new z = record {
     queued = record {
-      nodes-fit = s.nodes-fit;
-      queue-rows = length-set queue held v ∙ s.queue-rows;
-      mark-rows = length-set marks v 1 ∙ s.mark-rows;
-      listed = listed_more nodes held queue marks s.listed v l z (omega (arith, mark-room z, s.queue-rows, s.nodes-fit)) inside;
+      nodes_fit = s.nodes_fit;
+      queue_rows = length-set queue held v ∙ s.queue_rows;
+      mark_rows = length-set marks v 1 ∙ s.mark_rows;
+      listed = listed_more nodes held queue marks s.listed v l z (omega (arith, mark_room z, s.queue_rows, s.nodes_fit)) inside;
     };
     longer = omega arith;
     front = λ i k. get_or-set_other queue held i v 0 (let y : ¬ (i ≡ held) = λ e. omega arith in y);
@@ -82,7 +82,7 @@ module _ {nodes v held : ℕ} {queue marks : List ℕ} (l : v < nodes) (s : Queu
   }
     where
       inside : v < length marks
-      inside = omega (arith, s.mark-rows, s.nodes-fit)
+      inside = omega (arith, s.mark_rows, s.nodes_fit)
 
       same : (u : ℕ) → u ≡ v → at (set marks v 1) u ≡ 1
       same u e = ap (at (set marks v 1)) e ∙ get_or-set_same marks v 1 0 inside
@@ -98,13 +98,13 @@ module _ {nodes v held : ℕ} {queue marks : List ℕ} (l : v < nodes) (s : Queu
 -- ── Over the edges at places of a list ──────────────────────────────────────────────────────
 
 module _ {to links : List ℕ} {lo : ℕ} where
-  pub ends-none : (v : ℕ) → ¬ EndOf to links lo lo v
-  ends-none v x = omega (arith, x.above, x.below)
+  pub ends_none : (v : ℕ) → ¬ EndOf to links lo lo v
+  ends_none v x = omega (arith, x.above, x.below)
 
   module _ {nodes h h' h'' k : ℕ} {q m q' m' q'' m'' : List ℕ} (low : lo ≤ k) where
-    pub ends-turn : Spread nodes (EndOf to links lo k) q m h q' m' h' → Spread nodes (λ u. u ≡ at to (at links k)) q' m' h' q'' m'' h''
+    pub ends_turn : Spread nodes (EndOf to links lo k) q m h q' m' h' → Spread nodes (λ u. u ≡ at to (at links k)) q' m' h' q'' m'' h''
         → Spread nodes (EndOf to links lo (k + 1)) q m h q'' m'' h''
-    ends-turn = spread-then (λ v x. apart v x (ℕ_discrete x.place k)) (λ v. ⊎_elim wider last)
+    ends_turn = spread_then (λ v x. apart v x (ℕ_discrete x.place k)) (λ v. ⊎_elim wider last)
       where
         apart : (v : ℕ) (x : EndOf to links lo (k + 1) v) → Dec (x.place ≡ k) → EndOf to links lo k v ⊎ (v ≡ at to (at links k))
         apart v x (yes e) = inr (sym x.ends ∙ ap (λ p. at to (at links p)) e)
@@ -123,20 +123,20 @@ abbrev pub PinBelow : List ℕ → ℕ → ℕ → ℕ → Type 0
 PinBelow kind pin v u = (u < v) × (at kind u ≡ pin)
 
 module _ (kind : List ℕ) (pin : ℕ) where
-  pub pins-none : (u : ℕ) → ¬ PinBelow kind pin 0 u
-  pins-none u x = omega (arith, x.0)
+  pub pins_none : (u : ℕ) → ¬ PinBelow kind pin 0 u
+  pins_none u x = omega (arith, x.0)
 
   module _ {nodes h h' v : ℕ} {q m q' m' : List ℕ} where
-    pub pins-turn : {h'' : ℕ} {q'' m'' : List ℕ} → at kind v ≡ pin → Spread nodes (PinBelow kind pin v) q m h q' m' h' → Spread nodes (λ u. u ≡ v) q' m' h' q'' m'' h''
+    pub pins_turn : {h'' : ℕ} {q'' m'' : List ℕ} → at kind v ≡ pin → Spread nodes (PinBelow kind pin v) q m h q' m' h' → Spread nodes (λ u. u ≡ v) q' m' h' q'' m'' h''
         → Spread nodes (PinBelow kind pin (v + 1)) q m h q'' m'' h''
-    pins-turn p = spread-then (λ u x. apart u x (ℕ_discrete u v)) (λ u. ⊎_elim (λ x. (omega (arith, x.0), x.1)) (λ e. (omega arith, ap (at kind) e ∙ p)))
+    pins_turn p = spread_then (λ u x. apart u x (ℕ_discrete u v)) (λ u. ⊎_elim (λ x. (omega (arith, x.0), x.1)) (λ e. (omega arith, ap (at kind) e ∙ p)))
       where
         apart : (u : ℕ) → PinBelow kind pin (v + 1) u → Dec (u ≡ v) → PinBelow kind pin v u ⊎ (u ≡ v)
         apart u x (yes e) = inr e
         apart u x (no e) = inl (omega (arith, x.0), x.1)
 
-    pub pins-skip : ¬ (at kind v ≡ pin) → Spread nodes (PinBelow kind pin v) q m h q' m' h' → Spread nodes (PinBelow kind pin (v + 1)) q m h q' m' h'
-    pins-skip n s = spread-then {B = λ u. ⊥} (λ u x. inl (below u x (ℕ_discrete u v))) (λ u. ⊎_elim (λ x. (omega (arith, x.0), x.1)) absurd) s (spread_none s.queued (λ u z. z))
+    pub pins_skip : ¬ (at kind v ≡ pin) → Spread nodes (PinBelow kind pin v) q m h q' m' h' → Spread nodes (PinBelow kind pin (v + 1)) q m h q' m' h'
+    pins_skip n s = spread_then {B = λ u. ⊥} (λ u x. inl (below u x (ℕ_discrete u v))) (λ u. ⊎_elim (λ x. (omega (arith, x.0), x.1)) absurd) s (spread_none s.queued (λ u z. z))
       where
         below : (u : ℕ) → PinBelow kind pin (v + 1) u → Dec (u ≡ v) → PinBelow kind pin v u
         below u x (yes e) = absurd (n (ap (at kind) (sym e) ∙ x.1))
@@ -154,32 +154,32 @@ pub record Fed (edges : ℕ) (from to queue : List ℕ) (lo hi v : ℕ) : Type 0
   pub enters : at to edge ≡ v
 
 module _ {nodes edges : ℕ} {from to links begin : List ℕ} (s : Links nodes edges from to links begin) where
-  pub node-ends : (u : ℕ) → u < nodes → EndsIn nodes to links (at begin u) (at begin (u + 1))
-  node-ends u l = record {
-    low = s.leaving.by-node.up u l;
-    rows = omega (arith, s.leaving.by-node.within u l, s.leaving.list-rows);
-    edge = λ k i. omega (arith, s.leaving.by-node.edge k (few k i), s.laid.to-rows);
-    node = λ k i. s.laid.to_in (at links k) (s.leaving.by-node.edge k (few k i));
+  pub node_ends : (u : ℕ) → u < nodes → EndsIn nodes to links (at begin u) (at begin (u + 1))
+  node_ends u l = record {
+    low = s.leaving.by_node.up u l;
+    rows = omega (arith, s.leaving.by_node.within u l, s.leaving.list_rows);
+    edge = λ k i. omega (arith, s.leaving.by_node.edge k (few k i), s.laid.to_rows);
+    node = λ k i. s.laid.to_in (at links k) (s.leaving.by_node.edge k (few k i));
   }
     where
       few : (k : ℕ) → k < at begin (u + 1) → k < edges
-      few k i = omega (arith, s.leaving.by-node.within u l)
+      few k i = omega (arith, s.leaving.by_node.within u l)
 
-  pub fed-none : {queue : List ℕ} {lo : ℕ} (v : ℕ) → ¬ Fed edges from to queue lo lo v
-  fed-none v x = omega (arith, x.above, x.below)
+  pub fed_none : {queue : List ℕ} {lo : ℕ} (v : ℕ) → ¬ Fed edges from to queue lo lo v
+  fed_none v x = omega (arith, x.above, x.below)
 
   -- The edges that leave the node at place i stand at its places of `links`, and no others do.
   module _ {h h' h'' lo i : ℕ} {q m q' m' q'' m'' : List ℕ} (low : lo ≤ i) (u : ℕ) (here : u ≡ at q i) (l : u < nodes) where
-    pub fed-turn : Spread nodes (Fed edges from to q lo i) q m h q' m' h' → Spread nodes (EndOf to links (at begin u) (at begin (u + 1))) q' m' h' q'' m'' h''
+    pub fed_turn : Spread nodes (Fed edges from to q lo i) q m h q' m' h' → Spread nodes (EndOf to links (at begin u) (at begin (u + 1))) q' m' h' q'' m'' h''
         → Spread nodes (Fed edges from to q lo (i + 1)) q m h q'' m'' h''
-    fed-turn = spread-then (λ v x. apart v x (ℕ_discrete x.place i)) (λ v. ⊎_elim wider last)
+    fed_turn = spread_then (λ v x. apart v x (ℕ_discrete x.place i)) (λ v. ⊎_elim wider last)
       where
         Ends : ℕ → Type 0
         Ends = EndOf to links (at begin u) (at begin (u + 1))
 
         apart : (v : ℕ) (x : Fed edges from to q lo (i + 1) v) → Dec (x.place ≡ i) → Fed edges from to q lo i v ⊎ Ends v
         apart v x (yes e) =
-            let t = s.leaving.by-node.stands x.edge x.inside in
+            let t = s.leaving.by_node.stands x.edge x.inside in
             let own : at from x.edge ≡ u = sym x.leaves ∙ ap (at q) e ∙ sym here in
             inr (record {
               place = t.0;
@@ -196,10 +196,10 @@ module _ {nodes edges : ℕ} {from to links begin : List ℕ} (s : Links nodes e
         last : {v : ℕ} → Ends v → Fed edges from to q lo (i + 1) v
         last x = record {
           edge = at links x.place;
-          inside = s.leaving.by-node.edge x.place (omega (arith, x.below, s.leaving.by-node.within u l));
+          inside = s.leaving.by_node.edge x.place (omega (arith, x.below, s.leaving.by_node.within u l));
           place = i;
           above = low;
           below = omega arith;
-          leaves = sym here ∙ sym (s.leaving.by-node.ends u x.place l x.above x.below);
+          leaves = sym here ∙ sym (s.leaving.by_node.ends u x.place l x.above x.below);
           enters = x.ends;
         }

@@ -7,7 +7,7 @@
 -- Request F-5.
 use Rattle.std.specs.Prelude.{◌≡◌, Bool, true, false, List, ℕ, ◌<◌, ◌≤◌, eqb}
 use Rattle.theory.specs.Graph.{Graph}
-use Rattle.theory.specs.Walk.{Walk, walkSteps}
+use Rattle.theory.specs.Walk.{Walk, walk_steps}
 use Rattle.graph.specs.declared.layers.Layer.{Layer}
 use Rattle.graph.specs.Columns.{at}
 
@@ -19,7 +19,7 @@ pub record FromWithin (G : Graph) (k n v : ℕ) : Type 0 where
   pub start : ℕ
   pub kind : G.kind start ≡ k
   pub walk : Walk G start v
-  pub few : walkSteps walk ≤ n
+  pub few : walk_steps walk ≤ n
 
 -- "before the first just the inputs are marked, after pass k exactly the nodes that some input reaches over at most k edges". Here n is the pass, and k the kind, which is 0 for inputs.
 abbrev pub Layered : Graph → ℕ → ℕ → List ℕ → Type 0

@@ -2,7 +2,7 @@
 // After pass n exactly those are marked that a pin reaches over n edges at most.
 // Required: columns that are long enough, ends of edges that are nodes. Reading makes sure of both.
 ghost use Rattle.std.specs.Prelude.{◌≡◌, List, ℕ, ◌≤◌, ◌<◌, eqb, length};
-ghost use Rattle.graph.specs.Columns.{at, columnGraph};
+ghost use Rattle.graph.specs.Columns.{at, column_graph};
 ghost use Rattle.graph.specs.Layers.{Told};
 ghost use Rattle.graph.specs.inner.Laid.{From, Laid};
 ghost use Rattle.graph.specs.inner.Layers.{Queued, EndOf, EndsIn, Spread, Links, Steady, AfterPasses, PassLeaves};
@@ -154,7 +154,7 @@ pub fn reached<'a>(
     edges: usize,
 ) -> [u8; NODES]
     requires { Laid nodes edges from.now to.now × (nodes ≤ length kind.now) }
-    ensures { (v : ℕ) → v < nodes → Told (eqb (at result v) 1) (From (columnGraph nodes edges kind.now from.now to.now) pin v) }
+    ensures { (v : ℕ) → v < nodes → Told (eqb (at result v) 1) (From (column_graph nodes edges kind.now from.now to.now) pin v) }
 {
     let last = walk(kind, pin, from, to, nodes, edges, nodes + 1);
     last.marks

@@ -4,7 +4,7 @@
 // Required: columns that are long enough, ends of edges that are nodes. Reading makes sure of both.
 ghost use Rattle.std.specs.Prelude.{◌≡◌, List, ℕ, ◌+◌, ◌≤◌, ◌<◌, length};
 ghost use Rattle.theory.specs.Walk.{Loop};
-ghost use Rattle.graph.specs.Columns.{at, columnGraph};
+ghost use Rattle.graph.specs.Columns.{at, column_graph};
 ghost use Rattle.graph.specs.Layers.{Told};
 ghost use Rattle.graph.specs.inner.Laid.{Laid};
 ghost use Rattle.graph.specs.inner.Sort.{Ordered};
@@ -206,7 +206,7 @@ pub fn looped<'a>(
     edges: usize,
 ) -> bool
     requires { Laid nodes edges from.now to.now × (edges ≤ length count.now) }
-    ensures { (kind : List ℕ) → Told result (Loop (columnGraph nodes edges kind from.now to.now) (at count.now)) }
+    ensures { (kind : List ℕ) → Told result (Loop (column_graph nodes edges kind from.now to.now) (at count.now)) }
 {
     let found = order_of(from, to, count, nodes, edges);
     found.placed < nodes
@@ -221,7 +221,7 @@ pub fn evaluation_order<'a>(
     edges: usize,
 ) -> [u16; NODES]
     requires laid { Laid nodes edges from.now to.now × (edges ≤ length count.now) }
-    requires by_index { (kind : List ℕ) → ¬ Loop (columnGraph nodes edges kind from.now to.now) (at count.now) }
+    requires by_index { (kind : List ℕ) → ¬ Loop (column_graph nodes edges kind from.now to.now) (at count.now) }
     ensures { Ordered nodes edges from.now to.now count.now result }
 {
     let found = order_of(from, to, count, nodes, edges);

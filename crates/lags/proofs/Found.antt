@@ -1,8 +1,8 @@
 -- The ends of a climb.
---   climb-start         the marks to start from, all 0
---   climb-found         every node has the mark that it takes: the labels are those of the least retiming
---   climb-none          no legal labelling meets the period
---   climb-slow          so where a delay is above the period
+--   climb_start         the marks to start from, all 0
+--   climb_found         every node has the mark that it takes: the labels are those of the least retiming
+--   climb_none          no legal labelling meets the period
+--   climb_slow          so where a delay is above the period
 use Prim.Native.Nat.{ℕ, ◌+◌, ◌*◌, ◌≤◌, ◌<◌}
 use native.Mathlib.Omega.{arith}
 use native.Mathlib.Decide.{dec_le}
@@ -12,111 +12,111 @@ use mathlib.Core.List.{List}
 use lib.ListN.{length}
 use Rattle.theory.specs.inner.Labels.{LegalLabels, LeastLabels}
 use Rattle.theory.specs.inner.Arrival.{FromPin, Infeasible}
-use Rattle.theory.proofs.labels.Start.{from-pin}
-use Rattle.theory.proofs.labels.Bias.{Label, least-lags, none-lags}
-use Rattle.theory.proofs.labels.Climb.{under-alone, climb-least, slow-node}
+use Rattle.theory.proofs.labels.Start.{from_pin}
+use Rattle.theory.proofs.labels.Bias.{Label, least_lags, none_lags}
+use Rattle.theory.proofs.labels.Climb.{under_alone, climb_least, slow_node}
 use Rattle.graph.specs.Columns.{at}
 use Rattle.graph.specs.inner.Marks.{Above}
 use Rattle.netlist.specs.declared.Netlist.{Netlist}
-use Rattle.netlist.specs.Net.{graph_of, regs_of, delayOf}
+use Rattle.netlist.specs.Net.{graph_of, regs_of, delay_of}
 use Rattle.netlist.specs.inner.Words.{PinIn}
 use Rattle.netlist.proofs.Fits.{clash}
-use Rattle.netlist.proofs.Run.{fit-rows, fit-wired}
+use Rattle.netlist.proofs.Run.{fit_rows, fit_wired}
 use Rattle.lags.specs.declared.Labels.{Labels}
-use Rattle.lags.specs.inner.Lags.{lagOf, Sure, Leasts}
+use Rattle.lags.specs.inner.Lags.{lag_of, Sure, Leasts}
 use Rattle.lags.specs.inner.Wires.{Basis}
-use Rattle.lags.specs.inner.Climb.{label_of, timeOf, Takes, on, anew, Rests, Marked}
-use Rattle.lags.proofs.Laws.{lag-label}
-use Rattle.lags.proofs.Starts.{near-pin}
-use Rattle.lags.proofs.Sweeps.{floor-pin}
+use Rattle.lags.specs.inner.Climb.{label_of, time_of, Takes, on, anew, Rests, Marked}
+use Rattle.lags.proofs.Laws.{lag_label}
+use Rattle.lags.proofs.Starts.{near_pin}
+use Rattle.lags.proofs.Sweeps.{floor_pin}
 
 -- ── What a node takes, beside what an edge with c registers asks for, from a mark x ─────────
 
 module _ {P d a m : ℕ} where
-  takes-fits : (x c : ℕ) → Takes P d a m → x ≤ a + c * 1048576 → label_of x ≤ c + label_of m
-  takes-fits x c (on t p s) q = omega arith
-  takes-fits x c (anew t p s) q = omega arith
+  takes_fits : (x c : ℕ) → Takes P d a m → x ≤ a + c * 1048576 → label_of x ≤ c + label_of m
+  takes_fits x c (on t p s) q = omega arith
+  takes_fits x c (anew t p s) q = omega arith
 
-  takes-time : (x c : ℕ) → Takes P d a m → x ≤ a + c * 1048576 → label_of x ≡ c + label_of m → timeOf x + d ≤ timeOf m
-  takes-time x c (on t p s) q e = omega arith
-  takes-time x c (anew t p s) q e = omega arith
+  takes_time : (x c : ℕ) → Takes P d a m → x ≤ a + c * 1048576 → label_of x ≡ c + label_of m → time_of x + d ≤ time_of m
+  takes_time x c (on t p s) q e = omega arith
+  takes_time x c (anew t p s) q e = omega arith
 
-  takes-own : Takes P d a m → d ≤ P → (label_of a ≤ label_of m) × (d ≤ timeOf m) × (timeOf m ≤ P)
-  takes-own (on t p s) q = omega arith
-  takes-own (anew t p s) q = omega arith
+  takes_own : Takes P d a m → d ≤ P → (label_of a ≤ label_of m) × (d ≤ time_of m) × (time_of m ≤ P)
+  takes_own (on t p s) q = omega arith
+  takes_own (anew t p s) q = omega arith
 
 near : (net : Netlist) → Sure net → (v : ℕ) → v < net.nodes → FromPin (graph_of net) (regs_of net).count v 16384
 near net s v h = go (dec_le (at net.kind v) 1)
   where
     go : Dec (PinIn net v) → FromPin (graph_of net) (regs_of net).count v 16384
     go (yes p) =
-        let t = from-pin {G = graph_of net} {count = (regs_of net).count} v h p in
+        let t = from_pin {G = graph_of net} {count = (regs_of net).count} v h p in
         record { from = t.from; pin = t.pin; walk = t.walk; few = omega (arith, t.few) }
-    go (no p) = near-pin net s v h p
+    go (no p) = near_pin net s v h p
 
-pub climb-start : (net : Netlist) (P : ℕ) (mark : List ℕ) → net.nodes ≤ length mark → ((v : ℕ) → v < net.nodes → at mark v ≡ 0) → Marked net P mark
-climb-start net P mark n z = record {
+pub climb_start : (net : Netlist) (P : ℕ) (mark : List ℕ) → net.nodes ≤ length mark → ((v : ℕ) → v < net.nodes → at mark v ≡ 0) → Marked net P mark
+climb_start net P mark n z = record {
   rows = n;
   low = λ v h. omega (arith, z v h);
   pinned = λ v h p. omega (arith, z v h);
-  under = λ v h r l q. under-alone (at net.count) (delayOf net) P r v _ _ h (omega (arith, z v h)) (omega (arith, z v h));
+  under = λ v h r l q. under_alone (at net.count) (delay_of net) P r v _ _ h (omega (arith, z v h)) (omega (arith, z v h));
 }
 
-pub climb-none : (net : Netlist) (P : ℕ) → Sure net → (r : Labels) → r.found ≡ false → ((v : ℕ) → v < 512 → at r.lab v ≡ 0)
-    → Infeasible (graph_of net) (regs_of net).count (delayOf net) 16384 P → Leasts net P r
-climb-none net P s r e z n = record {
+pub climb_none : (net : Netlist) (P : ℕ) → Sure net → (r : Labels) → r.found ≡ false → ((v : ℕ) → v < 512 → at r.lab v ≡ 0)
+    → Infeasible (graph_of net) (regs_of net).count (delay_of net) 16384 P → Leasts net P r
+climb_none net P s r e z n = record {
   least = λ q. clash (cc);
-  none = λ _. none-lags (fit-wired net s.fit) (at net.count) (delayOf net) 16384 P (near net s) n;
-  small = λ v h. omega (arith, z v (omega (arith, (fit-rows net s.fit).0)));
+  none = λ _. none_lags (fit_wired net s.fit) (at net.count) (delay_of net) 16384 P (near net s) n;
+  small = λ v h. omega (arith, z v (omega (arith, (fit_rows net s.fit).0)));
 }
 
 module _ {net : Netlist} {P : ℕ} {ins first delay : List ℕ} (w : Basis net P ins first delay) where
-  pub climb-slow : Above delay net.nodes P → Infeasible (graph_of net) (regs_of net).count (delayOf net) 16384 P
-  climb-slow t = slow-node (at net.count) (delayOf net) 16384 P t.node t.within (omega (arith, t.above, w.delayed.exact t.node t.within))
+  pub climb_slow : Above delay net.nodes P → Infeasible (graph_of net) (regs_of net).count (delay_of net) 16384 P
+  climb_slow t = slow_node (at net.count) (delay_of net) 16384 P t.node t.within (omega (arith, t.above, w.delayed.exact t.node t.within))
 
   module _ (quick : ¬ Above delay net.nodes P) (mark : List ℕ) (m : Marked net P mark) (rests : (v : ℕ) → v < net.nodes → Rests net P ins first delay mark v) where
-    quick-at : (v : ℕ) → v < net.nodes → at delay v ≤ P
-    quick-at v h = go (dec_le (at delay v) P)
+    quick_at : (v : ℕ) → v < net.nodes → at delay v ≤ P
+    quick_at v h = go (dec_le (at delay v) P)
       where
         go : Dec (at delay v ≤ P) → at delay v ≤ P
         go (yes l) = l
         go (no l) = absurd (quick (record { node = v; within = h; above = omega arith }))
 
-    end-in : (e : ℕ) → e < net.edges → at net.to e < net.nodes
-    end-in = (fit-wired net w.sure.fit).dst-in
+    end_in : (e : ℕ) → e < net.edges → at net.to e < net.nodes
+    end_in = (fit_wired net w.sure.fit).dst_in
 
-    asks : (e : ℕ) (h : e < net.edges) → at mark (at net.from e) ≤ (rests (at net.to e) (end-in e h)).best + at net.count e * 1048576
+    asks : (e : ℕ) (h : e < net.edges) → at mark (at net.from e) ≤ (rests (at net.to e) (end_in e h)).best + at net.count e * 1048576
     asks e h =
-        let t = rests (at net.to e) (end-in e h) in
-        let k = w.wires.by-node.stands e h in
+        let t = rests (at net.to e) (end_in e h) in
+        let k = w.wires.by_node.stands e h in
         subst (λ x. at mark (at net.from x) ≤ t.best + at net.count x * 1048576) k.3 (t.asked.above k.0 k.2 k.1)
 
-    found-legal : LegalLabels (graph_of net) (at net.count) 16384 (λ v. label_of (at mark v))
-    found-legal = record {
-      fits = λ e h. takes-fits (at mark (at net.from e)) (at net.count e) (rests (at net.to e) (end-in e h)).takes (asks e h);
+    found_legal : LegalLabels (graph_of net) (at net.count) 16384 (λ v. label_of (at mark v))
+    found_legal = record {
+      fits = λ e h. takes_fits (at mark (at net.from e)) (at net.count e) (rests (at net.to e) (end_in e h)).takes (asks e h);
       pinned = λ v h p.
-          omega (arith, m.pinned v h p, floor-pin (at net.kind v) p, (rests v h).asked.least, (takes-own (rests v h).takes (quick-at v h)).0);
+          omega (arith, m.pinned v h p, floor_pin (at net.kind v) p, (rests v h).asked.least, (takes_own (rests v h).takes (quick_at v h)).0);
     }
 
-    found-least : LeastLabels (graph_of net) (at net.count) (delayOf net) 16384 P (λ v. label_of (at mark v))
-    found-least =
-        climb-least (at net.count) (delayOf net) 16384 P (fit-wired net w.sure.fit) (λ v. label_of (at mark v)) (λ v. timeOf (at mark v)) m.under
-        found-legal
-        (λ v h. omega (arith, (takes-own (rests v h).takes (quick-at v h)).1, w.delayed.exact v h))
+    found_least : LeastLabels (graph_of net) (at net.count) (delay_of net) 16384 P (λ v. label_of (at mark v))
+    found_least =
+        climb_least (at net.count) (delay_of net) 16384 P (fit_wired net w.sure.fit) (λ v. label_of (at mark v)) (λ v. time_of (at mark v)) m.under
+        found_legal
+        (λ v h. omega (arith, (takes_own (rests v h).takes (quick_at v h)).1, w.delayed.exact v h))
         (λ e h z.
         omega (
           arith,
-          takes-time (at mark (at net.from e)) (at net.count e) (rests (at net.to e) (end-in e h)).takes (asks e h) z,
-          w.delayed.exact (at net.to e) (end-in e h),
+          takes_time (at mark (at net.from e)) (at net.count e) (rests (at net.to e) (end_in e h)).takes (asks e h) z,
+          w.delayed.exact (at net.to e) (end_in e h),
         ))
-        (λ v h. (takes-own (rests v h).takes (quick-at v h)).2)
+        (λ v h. (takes_own (rests v h).takes (quick_at v h)).2)
 
-    pub climb-found : (lab : List ℕ) → ((v : ℕ) → v < net.nodes → at lab v ≡ label_of (at mark v)) → Leasts net P (record { found = true; lab = lab })
-    climb-found lab q = record {
+    pub climb_found : (lab : List ℕ) → ((v : ℕ) → v < net.nodes → at lab v ≡ label_of (at mark v)) → Leasts net P (record { found = true; lab = lab })
+    climb_found lab q = record {
       least = λ _.
-          least-lags (fit-wired net w.sure.fit) (at net.count) (delayOf net) 16384 P (near net w.sure) (λ v. lagOf (at lab v)) (λ v. label_of (at mark v))
-          (λ v h. subst (λ l. Label 16384 (lagOf (at lab v)) l) (q v h) (lag-label (at lab v)))
-          found-least;
+          least_lags (fit_wired net w.sure.fit) (at net.count) (delay_of net) 16384 P (near net w.sure) (λ v. lag_of (at lab v)) (λ v. label_of (at mark v))
+          (λ v h. subst (λ l. Label 16384 (lag_of (at lab v)) l) (q v h) (lag_label (at lab v)))
+          found_least;
       none = λ z. clash (cc);
       small = λ v h. omega (arith, q v h, m.low v h);
     }

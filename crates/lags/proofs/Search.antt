@@ -1,14 +1,14 @@
 -- Rounds: what one does to the labels, and the ways in which the search ends.
 --   Lifting             what holds in `raise` before node v
---   lift-late, lift-kept, lift-end      a late node; one that is not late; after the last node
+--   lift_late, lift_kept, lift_end      a late node; one that is not late; after the last node
 --   Searching           what holds before each round
---   search-start        before the first round
---   search-few          there are 512 nodes at most
---   search-low          the labels stay small
---   search-next         a round further
---   search-found        no node is late: the labels are those of the least retiming
---   search-pin          a pin is late: no legal retiming meets the period
---   search-last         after as many rounds as nodes: the least, or there is none
+--   search_start        before the first round
+--   search_few          there are 512 nodes at most
+--   search_low          the labels stay small
+--   search_next         a round further
+--   search_found        no node is late: the labels are those of the least retiming
+--   search_pin          a pin is late: no legal retiming meets the period
+--   search_last         after as many rounds as nodes: the least, or there is none
 use Prim.Native.Nat.{ℕ, suc, ◌+◌, ◌≤◌, ◌<◌}
 use native.Mathlib.Omega.{arith}
 use native.Mathlib.Numerals.{add-one}
@@ -21,22 +21,22 @@ use lib.Seq.{get_or-set_same, get_or-set_other}
 use Rattle.theory.specs.Graph.{Wired}
 use Rattle.theory.proofs.labels.Start.{Distance, First}
 use Rattle.theory.specs.inner.Labels.{Fits}
-use Rattle.theory.proofs.labels.Stop.{After, start, round, after-near, after-fits}
-use Rattle.theory.proofs.labels.Arrival.{time-late, times-round, times-no-late-pin, times_none}
-use Rattle.theory.proofs.labels.Answer.{ready, answer-least, answer-pin, answer-rounds}
+use Rattle.theory.proofs.labels.Stop.{After, start, round, after_near, after_fits}
+use Rattle.theory.proofs.labels.Arrival.{time_late, times_round, times_no_late_pin, times_none}
+use Rattle.theory.proofs.labels.Answer.{ready, answer_least, answer_pin, answer_rounds}
 use Rattle.graph.specs.Columns.{at}
 use Rattle.graph.specs.Layers.{Told}
 use Rattle.graph.specs.inner.Marks.{Above}
 use Rattle.netlist.specs.declared.Netlist.{Netlist}
-use Rattle.netlist.specs.Net.{graph_of, regs_of, delayOf}
+use Rattle.netlist.specs.Net.{graph_of, regs_of, delay_of}
 use Rattle.netlist.proofs.Fits.{clash}
-use Rattle.netlist.proofs.Run.{fit-rows, fit-wired}
-use Rattle.lags.specs.inner.Lags.{lagOf, Sure, Leasts}
+use Rattle.netlist.proofs.Run.{fit_rows, fit_wired}
+use Rattle.lags.specs.inner.Lags.{lag_of, Sure, Leasts}
 use Rattle.lags.specs.inner.Starts.{FirstLabels}
 use Rattle.lags.specs.inner.Rounds.{Low, LabelOrder, Arrived, LatePin, Lifted, Parted}
-use Rattle.lags.proofs.Laws.{lag-label}
-use Rattle.lags.proofs.Starts.{measured-distance, begun_first}
-use Rattle.lags.proofs.Orders.{order-kept}
+use Rattle.lags.proofs.Laws.{lag_label}
+use Rattle.lags.proofs.Starts.{measured_distance, begun_first}
+use Rattle.lags.proofs.Orders.{order_kept}
 
 -- ── A round ─────────────────────────────────────────────────────────────────────────────────
 
@@ -49,8 +49,8 @@ module _ (nodes P : ℕ) (time before : List ℕ) where
     pub rest : (k : ℕ) → v ≤ k → at lab k ≡ at before k
 
   module _ (lab : List ℕ) (v : ℕ) (h : v < nodes) (l : Lifting lab v) where
-    pub lift-kept : at time v ≤ P → Lifting lab (v + 1)
-    lift-kept q = record {
+    pub lift_kept : at time v ≤ P → Lifting lab (v + 1)
+    lift_kept q = record {
       done = omega arith;
       size = l.size;
       up = λ k m t. up k m t (ℕ_discrete k v);
@@ -66,8 +66,8 @@ module _ (nodes P : ℕ) (time before : List ℕ) where
         stays k m t (yes z) = l.rest k (omega arith)
         stays k m t (no z) = l.stays k (omega arith) t
 
-    pub lift-late : nodes ≤ length before → P < at time v → Lifting (set lab v (at lab v + 1)) (v + 1)
-    lift-late n q = record {
+    pub lift_late : nodes ≤ length before → P < at time v → Lifting (set lab v (at lab v + 1)) (v + 1)
+    lift_late n q = record {
       done = omega arith;
       size = length-set lab v (at lab v + 1) ∙ l.size;
       up = λ k m t. up k m t (ℕ_discrete k v);
@@ -89,8 +89,8 @@ module _ (nodes P : ℕ) (time before : List ℕ) where
         stays k m t (yes z) = absurd (let y : P < at time k = subst (λ x. P < at time x) (sym z) q in let x : ⊥ = omega arith in x)
         stays k m t (no z) = other k z ∙ l.stays k (omega arith) t
 
-  pub lift-end : (lab : List ℕ) (v : ℕ) → nodes ≤ v → Lifting lab v → Lifted nodes P time before lab
-  lift-end lab v h l = record { up = λ k m. l.up k (omega arith); stays = λ k m. l.stays k (omega arith) }
+  pub lift_end : (lab : List ℕ) (v : ℕ) → nodes ≤ v → Lifting lab v → Lifted nodes P time before lab
+  lift_end lab v h l = record { up = λ k m. l.up k (omega arith); stays = λ k m. l.stays k (omega arith) }
 
 -- ── The search ──────────────────────────────────────────────────────────────────────────────
 
@@ -99,59 +99,59 @@ pub record Searching (net : Netlist) (P : ℕ) (first lab order : List ℕ) (k :
   pub begun : FirstLabels net first
   pub rounds : k ≤ 512
   pub size : length lab ≡ 512
-  pub order-size : length order ≡ 512
+  pub order_size : length order ≡ 512
   pub ordered : LabelOrder net lab order
-  pub after : After (graph_of net) (regs_of net).count (delayOf net) P (at first) (at lab) k
+  pub after : After (graph_of net) (regs_of net).count (delay_of net) P (at first) (at lab) k
 
-pub search-start : {net : Netlist} {P : ℕ} {first order : List ℕ} (k : ℕ) → k ≡ 0 → Sure net → FirstLabels net first → length first ≡ 512 → LabelOrder net first order
+pub search_start : {net : Netlist} {P : ℕ} {first order : List ℕ} (k : ℕ) → k ≡ 0 → Sure net → FirstLabels net first → length first ≡ 512 → LabelOrder net first order
     → length order ≡ 512 → Searching net P first first order k
-search-start {net} {P} {first} k z s b n o m = record {
+search_start {net} {P} {first} k z s b n o m = record {
   sure = s;
   begun = b;
   rounds = omega arith;
   size = n;
-  order-size = m;
+  order_size = m;
   ordered = o;
-  after = subst (After (graph_of net) (regs_of net).count (delayOf net) P (at first) (at first)) (sym z) start;
+  after = subst (After (graph_of net) (regs_of net).count (delay_of net) P (at first) (at first)) (sym z) start;
 }
 
 module _ {net : Netlist} {P : ℕ} {first lab order : List ℕ} {k : ℕ} (w : Searching net P first lab order k) where
-  pub search-few : net.nodes ≤ 512
-  search-few = (fit-rows net w.sure.fit).0
+  pub search_few : net.nodes ≤ 512
+  search_few = (fit_rows net w.sure.fit).0
 
   wired : Wired (graph_of net)
-  wired = fit-wired net w.sure.fit
+  wired = fit_wired net w.sure.fit
 
   distance : Distance (graph_of net) (at net.count) (at w.begun.far)
-  distance = measured-distance net w.sure w.begun.far w.begun.measured
+  distance = measured_distance net w.sure w.begun.far w.begun.measured
 
   from_first : First (graph_of net) 16384 (at w.begun.far) (at first)
   from_first = begun_first net w.sure first w.begun
 
   first_fits : Fits (graph_of net) (at net.count) (at first)
-  first_fits = (ready wired (at net.count) (delayOf net) 16384 P (at w.begun.far) (at first) distance from_first).legal.fits
+  first_fits = (ready wired (at net.count) (delay_of net) 16384 P (at w.begun.far) (at first) distance from_first).legal.fits
 
   -- A round raises a label by one at most.
-  pub search-low : Low net.nodes lab
-  search-low v h = omega (arith, after-near wired first_fits w.after v h, w.begun.labels v h, w.rounds)
+  pub search_low : Low net.nodes lab
+  search_low v h = omega (arith, after_near wired first_fits w.after v h, w.begun.labels v h, w.rounds)
 
   module _ (time : List ℕ) (a : Arrived net P lab time) where
     -- A time above the period is the period and one.
     over : (v : ℕ) → v < net.nodes → P < at time v → at time v ≡ suc P
     over v h l = omega (arith, (a.reached v h).enough)
 
-    pub search-next : (next new : List ℕ) → k < net.nodes → length next ≡ length lab → length new ≡ 512 → ¬ LatePin net.kind time net.nodes P
+    pub search_next : (next new : List ℕ) → k < net.nodes → length next ≡ length lab → length new ≡ 512 → ¬ LatePin net.kind time net.nodes P
         → Lifted net.nodes P time lab next → Parted order time P net.nodes new → Searching net P first next new (k + 1)
-    search-next next new h m z n l p = record {
+    search_next next new h m z n l p = record {
       sure = w.sure;
       begun = w.begun;
-      rounds = omega (arith, search-few);
+      rounds = omega (arith, search_few);
       size = m ∙ w.size;
-      order-size = z;
-      ordered = order-kept net P time lab next order new w.sure (after-fits wired first_fits w.after) l w.ordered p (omega (arith, search-few));
+      order_size = z;
+      ordered = order_kept net P time lab next order new w.sure (after_fits wired first_fits w.after) l w.ordered p (omega (arith, search_few));
       after = rw add-one (round w.after
-          (times-no-late-pin (at net.count) (delayOf net) P (at lab) (at time) a (λ v m p q. n (record { node = v; within = m; pin = p; late = omega arith })))
-          (times-round (at net.count) (delayOf net) P (at lab) (at time) a (at next)
+          (times_no_late_pin (at net.count) (delay_of net) P (at lab) (at time) a (λ v m p q. n (record { node = v; within = m; pin = p; late = omega arith })))
+          (times_round (at net.count) (delay_of net) P (at lab) (at time) a (at next)
           (λ v m q. omega (arith, l.up v m (omega arith)))
           (λ v m q. l.stays v m (low v m q))));
     }
@@ -159,41 +159,41 @@ module _ {net : Netlist} {P : ℕ} {first lab order : List ℕ} {k : ℕ} (w : S
         low : (v : ℕ) → v < net.nodes → ¬ (at time v ≡ suc P) → at time v ≤ P
         low v m q = omega (arith, (a.reached v m).enough)
 
-    -- The labels are legal, meet the period, and never passed those of a legal retiming that meets it (`end-least`).
-    pub search-found : ¬ Above time net.nodes P → Leasts net P (record { found = true; lab = lab })
-    unfolding lagOf
-    search-found n = record {
+    -- The labels are legal, meet the period, and never passed those of a legal retiming that meets it (`end_least`).
+    pub search_found : ¬ Above time net.nodes P → Leasts net P (record { found = true; lab = lab })
+    unfolding lag_of
+    search_found n = record {
       least = λ _.
-          answer-least wired (at net.count) (delayOf net) 16384 P (at w.begun.far) (at first) distance from_first (at lab) k w.after
-          (λ v. lagOf (at lab v))
-          (λ v h. lag-label (at lab v))
-          (times_none (at net.count) (delayOf net) P (at lab) (at time) a (λ v h q. n (record { node = v; within = h; above = omega arith })));
+          answer_least wired (at net.count) (delay_of net) 16384 P (at w.begun.far) (at first) distance from_first (at lab) k w.after
+          (λ v. lag_of (at lab v))
+          (λ v h. lag_label (at lab v))
+          (times_none (at net.count) (delay_of net) P (at lab) (at time) a (λ v h q. n (record { node = v; within = h; above = omega arith })));
       none = λ z. clash (cc);
-      small = search-low;
+      small = search_low;
     }
 
-    -- A retiming that meets the period has a higher label at a late node, and no legal one has at a pin (`end-pin`).
-    pub search-pin : LatePin net.kind time net.nodes P → Leasts net P (record { found = false; lab = lab })
-    search-pin t = record {
+    -- A retiming that meets the period has a higher label at a late node, and no legal one has at a pin (`end_pin`).
+    pub search_pin : LatePin net.kind time net.nodes P → Leasts net P (record { found = false; lab = lab })
+    search_pin t = record {
       least = λ z. clash (cc);
       none = λ _.
-          answer-pin wired (at net.count) (delayOf net) 16384 P (at w.begun.far) (at first) distance from_first (at lab) k w.after
+          answer_pin wired (at net.count) (delay_of net) 16384 P (at w.begun.far) (at first) distance from_first (at lab) k w.after
           t.node t.pin
-          (time-late (at net.count) (delayOf net) P (at lab) (at time) a t.node t.within (over t.node t.within t.late));
-      small = search-low;
+          (time_late (at net.count) (delay_of net) P (at lab) (at time) a t.node t.within (over t.node t.within t.late));
+      small = search_low;
     }
 
-    -- A node that is late after as many rounds as nodes has behind it as many nodes and one, all different (`end-rounds`).
-    search-rounds : net.nodes ≤ k → Above time net.nodes P → Leasts net P (record { found = false; lab = lab })
-    search-rounds h t = record {
+    -- A node that is late after as many rounds as nodes has behind it as many nodes and one, all different (`end_rounds`).
+    search_rounds : net.nodes ≤ k → Above time net.nodes P → Leasts net P (record { found = false; lab = lab })
+    search_rounds h t = record {
       least = λ z. clash (cc);
       none = λ _.
-          answer-rounds wired (at net.count) (delayOf net) 16384 P (at w.begun.far) (at first) distance from_first (at lab) k w.after
+          answer_rounds wired (at net.count) (delay_of net) 16384 P (at w.begun.far) (at first) distance from_first (at lab) k w.after
           h t.node
-          (time-late (at net.count) (delayOf net) P (at lab) (at time) a t.node t.within (over t.node t.within t.above));
-      small = search-low;
+          (time_late (at net.count) (delay_of net) P (at lab) (at time) a t.node t.within (over t.node t.within t.above));
+      small = search_low;
     }
 
-    pub search-last : net.nodes ≤ k → (c : Bool) → Told c (Above time net.nodes P) → Leasts net P (record { found = not c; lab = lab })
-    search-last h true t = search-rounds h t
-    search-last h false t = search-found t
+    pub search_last : net.nodes ≤ k → (c : Bool) → Told c (Above time net.nodes P) → Leasts net P (record { found = not c; lab = lab })
+    search_last h true t = search_rounds h t
+    search_last h false t = search_found t

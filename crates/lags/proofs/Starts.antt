@@ -2,12 +2,12 @@
 --   State               what holds in a sweep before edge e
 --   Edge                what a sweep reads at edge e
 --   Sweeping            what holds between two sweeps
---   near-pin            every gate is within 16,384 registers of a pin
---   far-start           the distances to start from
---   edge-reads          the edge's numbers are in their ranges
---   state-keep, state-shorten, state-end      an edge that offers nothing; one that offers a shorter way; after the last edge
---   measured-distance, begun_first            the distances and the labels in the theory's words
---   begun-low           the labels are small
+--   near_pin            every gate is within 16,384 registers of a pin
+--   far_start           the distances to start from
+--   edge_reads          the edge's numbers are in their ranges
+--   state_keep, state_shorten, state_end      an edge that offers nothing; one that offers a shorter way; after the last edge
+--   measured_distance, begun_first            the distances and the labels in the theory's words
+--   begun_low           the labels are small
 use Prim.Native.Nat.{ℕ, ◌+◌, ◌≤◌, ◌<◌}
 use native.Mathlib.Omega.{arith}
 use native.Mathlib.Decide.{ℕ_discrete, dec_le}
@@ -18,31 +18,31 @@ use lib.ListN.{length, set, length-set}
 use lib.Seq.{get_or-set_same, get_or-set_other}
 use borrow.Author.Tests.{le-leb, lt-leb}
 use Rattle.theory.proofs.numbers.Sums.{sum_less}
-use Rattle.theory.proofs.walks.Short.{short-walk, few-registers}
+use Rattle.theory.proofs.walks.Short.{short_walk, few_registers}
 use Rattle.theory.specs.inner.Arrival.{FromPin}
-use Rattle.theory.proofs.labels.Start.{from-pin, from-edge, Distance, First}
+use Rattle.theory.proofs.labels.Start.{from_pin, from_edge, Distance, First}
 use Rattle.graph.specs.Columns.{at}
 use Rattle.netlist.specs.declared.Netlist.{Netlist}
 use Rattle.netlist.specs.Net.{graph_of, regs_of}
 use Rattle.netlist.specs.inner.Words.{PinIn}
-use Rattle.netlist.proofs.Run.{fit-rows, fit-wired}
+use Rattle.netlist.proofs.Run.{fit_rows, fit_wired}
 use Rattle.netlist.proofs.Lowest.{count_low}
 use Rattle.lags.specs.inner.Lags.{Sure}
 use Rattle.lags.specs.inner.Rounds.{Low}
-use Rattle.lags.specs.inner.Starts.{start_of, distanceSum, Far, NoShorter, Shortened, Measured, FirstLabels}
+use Rattle.lags.specs.inner.Starts.{start_of, distance_sum, Far, NoShorter, Shortened, Measured, FirstLabels}
 
 -- r is 1 where a distance has changed.
 pub record State (net : Netlist) (before far : List ℕ) (r e : ℕ) : Type 0 where
   pub done : e ≤ net.edges
   pub size : length far ≡ length before
   pub ways : Far net far
-  pub fallen : distanceSum net far + r ≤ distanceSum net before
+  pub fallen : distance_sum net far + r ≤ distance_sum net before
   pub passed : r ≡ 0 → NoShorter net far e
 
 pub record Edge (net : Netlist) (far : List ℕ) (e : ℕ) : Type 0 where
   pub row : e < 1024
-  pub from-node : at net.from e < 512
-  pub to-node : at net.to e < 512
+  pub from_node : at net.from e < 512
+  pub to_node : at net.to e < 512
   pub from_row : at net.from e < length far
   pub to_row : at net.to e < length far
   pub few : at net.count e ≤ 32
@@ -56,21 +56,21 @@ pub record Sweeping (net : Netlist) (far : List ℕ) (r : ℕ) : Type 0 where
 
 module _ (net : Netlist) (s : Sure net) where
   -- An input reaches v. A walk between the two has fewer edges than there are nodes, 511 at most, and 32 registers on each at most.
-  pub near-pin : (v : ℕ) → v < net.nodes → ¬ PinIn net v → FromPin (graph_of net) (regs_of net).count v 16384
-  near-pin v h p =
+  pub near_pin : (v : ℕ) → v < net.nodes → ¬ PinIn net v → FromPin (graph_of net) (regs_of net).count v 16384
+  near_pin v h p =
       let f = s.fed v h p in
-      let q = short-walk (fit-wired net s.fit) f.walk in
+      let q = short_walk (fit_wired net s.fit) f.walk in
       record {
         from = f.from;
         pin = omega (arith, f.input);
         walk = q.0;
-        few = omega (arith, few-registers (at net.count) 32 (count_low net s.fit) q.0, q.1, (fit-rows net s.fit).0);
+        few = omega (arith, few_registers (at net.count) 32 (count_low net s.fit) q.0, q.1, (fit_rows net s.fit).0);
       }
 
-  pub far-start : (far : List ℕ) → length far ≡ 512 → ((v : ℕ) → v < net.nodes → at far v ≡ start_of (at net.kind v)) → Far net far
+  pub far_start : (far : List ℕ) → length far ≡ 512 → ((v : ℕ) → v < net.nodes → at far v ≡ start_of (at net.kind v)) → Far net far
   unfolding start_of
-  far-start far n w = record {
-    rows = omega (arith, (fit-rows net s.fit).0);
+  far_start far n w = record {
+    rows = omega (arith, (fit_rows net s.fit).0);
     low = λ v h. low v h (dec_le (at net.kind v) 1);
     pins = λ v h p. pin v h p;
     reached = λ v h. reached v h (dec_le (at net.kind v) 1);
@@ -87,27 +87,27 @@ module _ (net : Netlist) (s : Sure net) where
       low v h (no p) = omega (arith, gate v h p)
 
       reached : (v : ℕ) → v < net.nodes → Dec (PinIn net v) → FromPin (graph_of net) (regs_of net).count v (at far v)
-      reached v h (yes p) = rw (pin v h p) (from-pin v h p)
-      reached v h (no p) = rw (gate v h p) (near-pin v h p)
+      reached v h (yes p) = rw (pin v h p) (from_pin v h p)
+      reached v h (no p) = rw (gate v h p) (near_pin v h p)
 
   -- ── A sweep ─────────────────────────────────────────────────────────────────────────────────
 
-  pub edge-reads : (far : List ℕ) → Far net far → (e : ℕ) → e < net.edges → Edge net far e
-  edge-reads far w e h =
-      let i = fit-wired net s.fit in
+  pub edge_reads : (far : List ℕ) → Far net far → (e : ℕ) → e < net.edges → Edge net far e
+  edge_reads far w e h =
+      let i = fit_wired net s.fit in
       record {
-        row = omega (arith, (fit-rows net s.fit).1);
-        from-node = omega (arith, i.src-in e h, (fit-rows net s.fit).0);
-        to-node = omega (arith, i.dst-in e h, (fit-rows net s.fit).0);
-        from_row = omega (arith, i.src-in e h, w.rows);
-        to_row = omega (arith, i.dst-in e h, w.rows);
+        row = omega (arith, (fit_rows net s.fit).1);
+        from_node = omega (arith, i.src_in e h, (fit_rows net s.fit).0);
+        to_node = omega (arith, i.dst_in e h, (fit_rows net s.fit).0);
+        from_row = omega (arith, i.src_in e h, w.rows);
+        to_row = omega (arith, i.dst_in e h, w.rows);
         few = count_low net s.fit e h;
-        low = w.low (at net.from e) (i.src-in e h);
+        low = w.low (at net.from e) (i.src_in e h);
       }
 
   module _ (before far : List ℕ) (r e : ℕ) (h : e < net.edges) (t : State net before far r e) where
-    pub state-keep : at far (at net.to e) ≤ at far (at net.from e) + at net.count e → State net before far r (e + 1)
-    state-keep l = record {
+    pub state_keep : at far (at net.to e) ≤ at far (at net.from e) + at net.count e → State net before far r (e + 1)
+    state_keep l = record {
       done = omega arith;
       size = t.size;
       ways = t.ways;
@@ -120,9 +120,9 @@ module _ (net : Netlist) (s : Sure net) where
         last z k m (no q) = t.passed z k (omega arith)
 
     -- The walk to the edge's start and the edge reach the new distance. It is shorter, so the sum falls; and a pin has no shorter one.
-    pub state-shorten : at far (at net.from e) + at net.count e < at far (at net.to e)
+    pub state_shorten : at far (at net.from e) + at net.count e < at far (at net.to e)
         → State net before (set far (at net.to e) (at far (at net.from e) + at net.count e)) 1 (e + 1)
-    state-shorten l = record {
+    state_shorten l = record {
       done = omega arith;
       size = length-set far v d ∙ t.size;
       ways = record {
@@ -141,11 +141,11 @@ module _ (net : Netlist) (s : Sure net) where
         d : ℕ
         d = at far (at net.from e) + at net.count e
 
-        in-nodes : v < net.nodes
-        in-nodes = (fit-wired net s.fit).dst-in e h
+        in_nodes : v < net.nodes
+        in_nodes = (fit_wired net s.fit).dst_in e h
 
         same : at (set far v d) v ≡ d
-        same = get_or-set_same far v d 0 (let y : v < length far = omega (arith, in-nodes, t.ways.rows) in y)
+        same = get_or-set_same far v d 0 (let y : v < length far = omega (arith, in_nodes, t.ways.rows) in y)
 
         other : (x : ℕ) → x ≢ v → at (set far v d) x ≡ at far x
         other x z = get_or-set_other far v x d 0 z
@@ -154,29 +154,29 @@ module _ (net : Netlist) (s : Sure net) where
         fall x (yes z) = subst (λ y. at (set far v d) y ≤ at far y) (sym z) (omega (arith, same, l))
         fall x (no z) = omega (arith, other x z)
 
-        falls : distanceSum net (set far v d) < distanceSum net far
+        falls : distance_sum net (set far v d) < distance_sum net far
         falls =
             sum_less (λ x. at (set far v d) x) (λ x. at far x) net.nodes v
             (λ x k. fall x (ℕ_discrete x v))
-            in-nodes
+            in_nodes
             (omega (arith, same, l))
 
         reached : (x : ℕ) → x < net.nodes → Dec (x ≡ v) → FromPin (graph_of net) (regs_of net).count x (at (set far v d) x)
         reached x k (yes z) =
             subst (λ y. FromPin (graph_of net) (regs_of net).count y (at (set far v d) y)) (sym z)
             (subst (λ n. FromPin (graph_of net) (regs_of net).count v n) (sym same)
-            (from-edge e (at far (at net.from e)) h (t.ways.reached (at net.from e) ((fit-wired net s.fit).src-in e h))))
+            (from_edge e (at far (at net.from e)) h (t.ways.reached (at net.from e) ((fit_wired net s.fit).src_in e h))))
         reached x k (no z) = subst (λ n. FromPin (graph_of net) (regs_of net).count x n) (sym (other x z)) (t.ways.reached x k)
 
-  pub state-end : (before far : List ℕ) (r e : ℕ) → net.edges ≤ e → State net before far r e → Shortened net before far r
-  state-end before far r e h t = record { far = t.ways; fallen = t.fallen; passed = λ z k l. t.passed z k (omega arith) }
+  pub state_end : (before far : List ℕ) (r e : ℕ) → net.edges ≤ e → State net before far r e → Shortened net before far r
+  state_end before far r e h t = record { far = t.ways; fallen = t.fallen; passed = λ z k l. t.passed z k (omega arith) }
 
   -- ── In the theory's words ───────────────────────────────────────────────────────────────────
 
-  pub measured-distance : (far : List ℕ) → Measured net far → Distance (graph_of net) (regs_of net).count (at far)
-  measured-distance far m = record {
+  pub measured_distance : (far : List ℕ) → Measured net far → Distance (graph_of net) (regs_of net).count (at far)
+  measured_distance far m = record {
     edge = m.passed;
-    source = λ e h p. m.ways.pins (at net.from e) ((fit-wired net s.fit).src-in e h) p;
+    source = λ e h p. m.ways.pins (at net.from e) ((fit_wired net s.fit).src_in e h) p;
     reached = m.ways.reached;
   }
 
@@ -187,5 +187,5 @@ module _ (net : Netlist) (s : Sure net) where
       go (yes p) = inl (p, omega (arith, b.labels v h, b.measured.ways.pins v h p))
       go (no p) = inr (p, b.labels v h)
 
-pub begun-low : (net : Netlist) (lab : List ℕ) → FirstLabels net lab → Low net.nodes lab
-begun-low net lab b v h = omega (arith, b.labels v h)
+pub begun_low : (net : Netlist) (lab : List ℕ) → FirstLabels net lab → Low net.nodes lab
+begun_low net lab b v h = omega (arith, b.labels v h)

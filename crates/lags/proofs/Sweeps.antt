@@ -1,11 +1,11 @@
 -- The climb: what an edge asks for, what a node takes, what a sweep leaves.
---   floor-pin, floor-gate, floor-low         the mark that a node has by its kind alone
---   asked-kept, asked-raised                 an edge that asks for no more; one that asks for more
---   climb-askable       a node's edges can be asked
---   climb-low           what is asked of a node is small
---   climb-next          what a node takes is below every legal retiming that meets the period, where the marks are
+--   floor_pin, floor_gate, floor_low         the mark that a node has by its kind alone
+--   asked_kept, asked_raised                 an edge that asks for no more; one that asks for more
+--   climb_askable       a node's edges can be asked
+--   climb_low           what is asked of a node is small
+--   climb_next          what a node takes is below every legal retiming that meets the period, where the marks are
 --   Sweeping            what holds in a sweep before place i of the order
---   sweep-kept, sweep-moved, sweep-late, sweep-still      a node that has its mark; one that takes another; a pin above its label; after the last node
+--   sweep_kept, sweep_moved, sweep_late, sweep_still      a node that has its mark; one that takes another; a pin above its label; after the last node
 use Prim.Native.Nat.{ℕ, suc, ◌+◌, ◌-◌, ◌*◌, min, ◌≤◌, ◌<◌}
 use native.Mathlib.Omega.{arith}
 use native.Mathlib.Decide.{ℕ_discrete, dec_le}
@@ -18,45 +18,45 @@ use lib.Seq.{get_or-set_same, get_or-set_other}
 use borrow.Author.Count.{below_more}
 use borrow.Author.Tests.{le-leb, lt-leb}
 use Rattle.theory.specs.inner.Arrival.{Infeasible, Under, UnderAll}
-use Rattle.theory.proofs.labels.Climb.{under-earlier, under-alone, under-edge, under_next, climb-pin}
+use Rattle.theory.proofs.labels.Climb.{under_earlier, under_alone, under_edge, under_next, climb_pin}
 use Rattle.graph.specs.Columns.{at}
 use Rattle.netlist.specs.declared.Netlist.{Netlist}
-use Rattle.netlist.specs.Net.{graph_of, delayOf}
+use Rattle.netlist.specs.Net.{graph_of, delay_of}
 use Rattle.netlist.specs.inner.Words.{PinIn}
 use Rattle.netlist.proofs.Fits.{clash}
-use Rattle.netlist.proofs.Run.{fit-rows, fit-wired}
+use Rattle.netlist.proofs.Run.{fit_rows, fit_wired}
 use Rattle.lags.specs.declared.climb.Swept.TheVariants.{Still}
 use Rattle.lags.specs.inner.Wires.{NodeList, Basis}
-use Rattle.lags.specs.inner.Climb.{label_of, timeOf, floorOf, Askable, AskedMark, Takes, on, anew, Rests, Lower, Marked, SweepLeaves}
+use Rattle.lags.specs.inner.Climb.{label_of, time_of, floor_of, Askable, AskedMark, Takes, on, anew, Rests, Lower, Marked, SweepLeaves}
 
 -- ── One node ────────────────────────────────────────────────────────────────────────────────
 
-pub floor-pin : (kind : ℕ) → kind ≤ 1 → floorOf kind ≡ 17179869184
-unfolding floorOf
-floor-pin kind h = rw (le-leb kind 1 h)
+pub floor_pin : (kind : ℕ) → kind ≤ 1 → floor_of kind ≡ 17179869184
+unfolding floor_of
+floor_pin kind h = rw (le-leb kind 1 h)
 
-pub floor-gate : (kind : ℕ) → 1 < kind → floorOf kind ≡ 0
-unfolding floorOf
-floor-gate kind h = rw (lt-leb kind 1 h)
+pub floor_gate : (kind : ℕ) → 1 < kind → floor_of kind ≡ 0
+unfolding floor_of
+floor_gate kind h = rw (lt-leb kind 1 h)
 
-pub floor-low : (kind : ℕ) → floorOf kind ≤ 17179869184
-floor-low kind = go (dec_le kind 1)
+pub floor_low : (kind : ℕ) → floor_of kind ≤ 17179869184
+floor_low kind = go (dec_le kind 1)
   where
-    go : Dec (kind ≤ 1) → floorOf kind ≤ 17179869184
-    go (yes p) = omega (arith, floor-pin kind p)
-    go (no p) = omega (arith, floor-gate kind (let z : 1 < kind = omega arith in z))
+    go : Dec (kind ≤ 1) → floor_of kind ≤ 17179869184
+    go (yes p) = omega (arith, floor_pin kind p)
+    go (no p) = omega (arith, floor_gate kind (let z : 1 < kind = omega arith in z))
 
 module _ (ins from count mark : List ℕ) (floor lo k best : ℕ) (h : lo ≤ k) (a : AskedMark ins from count mark floor lo k best) where
-  pub asked-kept : at mark (at from (at ins k)) ≤ best + at count (at ins k) * 1048576 → AskedMark ins from count mark floor lo (k + 1) best
-  asked-kept q = record {
+  pub asked_kept : at mark (at from (at ins k)) ≤ best + at count (at ins k) * 1048576 → AskedMark ins from count mark floor lo (k + 1) best
+  asked_kept q = record {
     least = a.least;
     above = below_more _ _ a.above (λ _. q);
     cause = ⊎_elim inl (λ c. inr (c.0, c.1, omega (arith, c.2), c.3)) a.cause;
   }
 
-  pub asked-raised : best + at count (at ins k) * 1048576 < at mark (at from (at ins k))
+  pub asked_raised : best + at count (at ins k) * 1048576 < at mark (at from (at ins k))
       → AskedMark ins from count mark floor lo (k + 1) (at mark (at from (at ins k)) - at count (at ins k) * 1048576)
-  asked-raised q = record {
+  asked_raised q = record {
     least = omega (arith, a.least);
     above = below_more _ _ (λ j m l. omega (arith, a.above j m l)) (λ _. omega arith);
     cause = inr (k, h, omega arith, omega arith);
@@ -65,69 +65,69 @@ module _ (ins from count mark : List ℕ) (floor lo k best : ℕ) (h : lo ≤ k)
 -- ── A climb ─────────────────────────────────────────────────────────────────────────────────
 
 module _ {net : Netlist} {P : ℕ} {ins first delay : List ℕ} (w : Basis net P ins first delay) where
-  pub climb-askable : (mark : List ℕ) → Marked net P mark → 1024 ≤ length net.from → 1024 ≤ length net.count → (v : ℕ) → v < net.nodes
+  pub climb_askable : (mark : List ℕ) → Marked net P mark → 1024 ≤ length net.from → 1024 ≤ length net.count → (v : ℕ) → v < net.nodes
       → Askable ins net.from net.count mark (at first v) (at first (v + 1))
-  climb-askable mark m rf rc v h = record {
-    up = w.wires.by-node.up v h;
-    rows = omega (arith, w.wires.by-node.within v h, w.wires.list-rows);
+  climb_askable mark m rf rc v h = record {
+    up = w.wires.by_node.up v h;
+    rows = omega (arith, w.wires.by_node.within v h, w.wires.list_rows);
     edge = λ k l q.
-        let e = w.wires.by-node.edge k (omega (arith, w.wires.by-node.within v h)) in
-        let u = (fit-wired net w.sure.fit).src-in (at ins k) e in
-        let n = (fit-rows net w.sure.fit).1 in
+        let e = w.wires.by_node.edge k (omega (arith, w.wires.by_node.within v h)) in
+        let u = (fit_wired net w.sure.fit).src_in (at ins k) e in
+        let n = (fit_rows net w.sure.fit).1 in
         (omega arith, omega arith, omega (arith, m.rows), m.low (at net.from (at ins k)) u);
   }
 
   module _ (mark : List ℕ) (m : Marked net P mark) (v : ℕ) (h : v < net.nodes) (best : ℕ)
-      (a : AskedMark ins net.from net.count mark (floorOf (at net.kind v)) (at first v) (at first (v + 1)) best) where
-    pub climb-low : best < 34359738368
-    climb-low =
+      (a : AskedMark ins net.from net.count mark (floor_of (at net.kind v)) (at first v) (at first (v + 1)) best) where
+    pub climb_low : best < 34359738368
+    climb_low =
         ⊎_elim
-        (λ c. omega (arith, floor-low (at net.kind v)))
+        (λ c. omega (arith, floor_low (at net.kind v)))
         (λ c.
-        let i = w.wires.by-node.edge c.0 (omega (arith, c.2, w.wires.by-node.within v h)) in
-        omega (arith, c.3, m.low (at net.from (at ins c.0)) ((fit-wired net w.sure.fit).src-in (at ins c.0) i)))
+        let i = w.wires.by_node.edge c.0 (omega (arith, c.2, w.wires.by_node.within v h)) in
+        omega (arith, c.3, m.low (at net.from (at ins c.0)) ((fit_wired net w.sure.fit).src_in (at ins c.0) i)))
         a.cause
 
     -- By its floor alone: a pin's label is that of every legal retiming. By an edge: its start's mark is below.
-    climb-asked : UnderAll (graph_of net) (at net.count) (delayOf net) 16384 P v (label_of best) (min (suc P) (timeOf best + delayOf net v))
-    climb-asked r l q = ⊎_elim (λ c. alone c (dec_le (at net.kind v) 1)) along a.cause
+    climb_asked : UnderAll (graph_of net) (at net.count) (delay_of net) 16384 P v (label_of best) (min (suc P) (time_of best + delay_of net v))
+    climb_asked r l q = ⊎_elim (λ c. alone c (dec_le (at net.kind v) 1)) along a.cause
       where
         Here : Type 0
-        Here = Under (graph_of net) (at net.count) (delayOf net) P r v (label_of best) (min (suc P) (timeOf best + delayOf net v))
+        Here = Under (graph_of net) (at net.count) (delay_of net) P r v (label_of best) (min (suc P) (time_of best + delay_of net v))
 
-        alone : best ≡ floorOf (at net.kind v) → Dec (PinIn net v) → Here
+        alone : best ≡ floor_of (at net.kind v) → Dec (PinIn net v) → Here
         alone c (yes p) =
-            let f = floor-pin (at net.kind v) p in
-            under-alone (at net.count) (delayOf net) P r v _ _ h (omega (arith, l.pinned v h p)) (omega arith)
+            let f = floor_pin (at net.kind v) p in
+            under_alone (at net.count) (delay_of net) P r v _ _ h (omega (arith, l.pinned v h p)) (omega arith)
         alone c (no p) =
-            let f = floor-gate (at net.kind v) (omega arith) in
-            under-alone (at net.count) (delayOf net) P r v _ _ h (omega arith) (omega arith)
+            let f = floor_gate (at net.kind v) (omega arith) in
+            under_alone (at net.count) (delay_of net) P r v _ _ h (omega arith) (omega arith)
 
         along : (k : ℕ) × (at first v ≤ k) × (k < at first (v + 1)) × (at mark (at net.from (at ins k)) ≡ best + at net.count (at ins k) * 1048576) → Here
         along c =
             let e = at ins c.0 in
-            let i = w.wires.by-node.edge c.0 (omega (arith, c.2, w.wires.by-node.within v h)) in
+            let i = w.wires.by_node.edge c.0 (omega (arith, c.2, w.wires.by_node.within v h)) in
             let x = at mark (at net.from e) in
             let s : x ≡ best + at net.count e * 1048576 = c.3 in
             let b : label_of x ≡ label_of best + at net.count e = omega arith in
-            let u = under-edge (at net.count) (delayOf net) P r l.fits e (label_of x) (label_of best) (timeOf x) i b (m.under (at net.from e) ((fit-wired net w.sure.fit).src-in e i) r l q) in
-            under-earlier (at net.count) (delayOf net) P r v (label_of best) (min (suc P) (timeOf x + delayOf net v)) _ (omega arith)
-            (subst (λ y. Under (graph_of net) (at net.count) (delayOf net) P r y (label_of best) (min (suc P) (timeOf x + delayOf net y))) (w.wires.by-node.ends v c.0 h c.1 c.2) u)
+            let u = under_edge (at net.count) (delay_of net) P r l.fits e (label_of x) (label_of best) (time_of x) i b (m.under (at net.from e) ((fit_wired net w.sure.fit).src_in e i) r l q) in
+            under_earlier (at net.count) (delay_of net) P r v (label_of best) (min (suc P) (time_of x + delay_of net v)) _ (omega arith)
+            (subst (λ y. Under (graph_of net) (at net.count) (delay_of net) P r y (label_of best) (min (suc P) (time_of x + delay_of net y))) (w.wires.by_node.ends v c.0 h c.1 c.2) u)
 
-    pub climb-next : (next : ℕ) → Takes P (at delay v) best next → Lower net P v next
-    climb-next next (on t p s) r l q =
+    pub climb_next : (next : ℕ) → Takes P (at delay v) best next → Lower net P v next
+    climb_next next (on t p s) r l q =
         let d = w.delayed.exact v h in
-        subst (λ y. Under (graph_of net) (at net.count) (delayOf net) P r v y (timeOf next)) (sym p)
-        (under-earlier (at net.count) (delayOf net) P r v (label_of best) _ (timeOf next) (omega arith) (climb-asked r l q))
-    climb-next next (anew t p s) r l q =
+        subst (λ y. Under (graph_of net) (at net.count) (delay_of net) P r v y (time_of next)) (sym p)
+        (under_earlier (at net.count) (delay_of net) P r v (label_of best) _ (time_of next) (omega arith) (climb_asked r l q))
+    climb_next next (anew t p s) r l q =
         let d = w.delayed.exact v h in
-        subst (λ y. Under (graph_of net) (at net.count) (delayOf net) P r v y (timeOf next)) (sym p)
-        (under-earlier (at net.count) (delayOf net) P r v (suc (label_of best)) (delayOf net v) (timeOf next) (omega arith)
-        (under_next (at net.count) (delayOf net) P r q v (label_of best) (timeOf best) h (omega arith) (climb-asked r l q)))
+        subst (λ y. Under (graph_of net) (at net.count) (delay_of net) P r v y (time_of next)) (sym p)
+        (under_earlier (at net.count) (delay_of net) P r v (suc (label_of best)) (delay_of net v) (time_of next) (omega arith)
+        (under_next (at net.count) (delay_of net) P r q v (label_of best) (time_of best) h (omega arith) (climb_asked r l q)))
 
-    pub sweep-late : (next : ℕ) → Takes P (at delay v) best next → PinIn net v → 17180917760 ≤ next
-        → Infeasible (graph_of net) (at net.count) (delayOf net) 16384 P
-    sweep-late next t p b = climb-pin (at net.count) (delayOf net) 16384 P v (label_of next) (timeOf next) h p (omega arith) (climb-next next t)
+    pub sweep_late : (next : ℕ) → Takes P (at delay v) best next → PinIn net v → 17180917760 ≤ next
+        → Infeasible (graph_of net) (at net.count) (delay_of net) 16384 P
+    sweep_late next t p b = climb_pin (at net.count) (delay_of net) 16384 P v (label_of next) (time_of next) h p (omega arith) (climb_next next t)
 
 -- ── A sweep ─────────────────────────────────────────────────────────────────────────────────
 
@@ -139,12 +139,12 @@ pub record Sweeping (net : Netlist) (P : ℕ) (ins first order delay before mark
 
 module _ {net : Netlist} {P : ℕ} {ins first order delay before mark : List ℕ} {changed : Bool} {i : ℕ}
     (s : Sweeping net P ins first order delay before mark changed i) where
-  pub sweep-kept : i < net.nodes → Rests net P ins first delay mark (at order i) → Sweeping net P ins first order delay before mark changed (i + 1)
-  sweep-kept h t = record { done = omega arith; size = s.size; marked = s.marked; rests = λ z. below_more _ _ (s.rests z) t }
+  pub sweep_kept : i < net.nodes → Rests net P ins first delay mark (at order i) → Sweeping net P ins first order delay before mark changed (i + 1)
+  sweep_kept h t = record { done = omega arith; size = s.size; marked = s.marked; rests = λ z. below_more _ _ (s.rests z) t }
 
-  pub sweep-moved : i < net.nodes → (v next : ℕ) → v < net.nodes → next < 34359738368 → (PinIn net v → label_of next ≤ 16384) → Lower net P v next
+  pub sweep_moved : i < net.nodes → (v next : ℕ) → v < net.nodes → next < 34359738368 → (PinIn net v → label_of next ≤ 16384) → Lower net P v next
       → Sweeping net P ins first order delay before (set mark v next) true (i + 1)
-  sweep-moved h v next n b p c = record {
+  sweep_moved h v next n b p c = record {
     done = omega arith;
     size = length-set mark v next ∙ s.size;
     marked = record {
@@ -164,8 +164,8 @@ module _ {net : Netlist} {P : ℕ} {ins first order delay before mark : List ℕ
           go (yes z) = subst (λ y. Is y (at (set mark v next) y)) (sym z) (subst (Is v) (sym (get_or-set_same mark v next 0 (omega (arith, s.marked.rows)))) new)
           go (no z) = subst (Is x) (sym (get_or-set_other mark v x next 0 z)) old
 
-  pub sweep-still : NodeList net order → net.nodes ≤ i → changed ≡ false → SweepLeaves net P ins first delay mark Still
-  sweep-still o h z = (
+  pub sweep_still : NodeList net order → net.nodes ≤ i → changed ≡ false → SweepLeaves net P ins first delay mark Still
+  sweep_still o h z = (
     s.marked,
     λ v l. let t = o.every v l in
         subst (Rests net P ins first delay mark) t.holds (s.rests z t.place (omega (arith, t.within))),

@@ -6,7 +6,7 @@ ghost use Rattle.std.specs.Prelude.{◌≡◌, true, false, ℕ, ◌≤◌, ◌<
 ghost use Rattle.graph.specs.Columns.{at};
 ghost use Rattle.lags.specs.inner.Lags.{Leasts};
 ghost use Rattle.lags.specs.inner.Wires.{NodeList, Basis};
-ghost use Rattle.lags.specs.inner.Climb.{label_of, floorOf, Askable, AskedMark, Takes, Marked, SweepLeaves};
+ghost use Rattle.lags.specs.inner.Climb.{label_of, floor_of, Askable, AskedMark, Takes, Marked, SweepLeaves};
 
 use crate::Labels;
 use graph::{NODES, any_above};
@@ -46,7 +46,7 @@ pub struct Climbed {
 
 // The mark that a node has by its kind alone.
 fn floor_of(kind: u8) -> u64
-    ensures { result ≡ floorOf kind }
+    ensures { result ≡ floor_of kind }
 {
     if kind <= 1 { PIN } else { 0 }
 }

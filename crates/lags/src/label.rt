@@ -2,7 +2,7 @@
 // Required of `lag_of`: a label whose lag fits 16 bits, which `least` promises of every label.
 ghost use Rattle.std.specs.Prelude.{◌≡◌, ◌<◌};
 ghost use Rattle.theory.specs.Lag.{up};
-ghost use Rattle.lags.specs.inner.Lags.{lagOf};
+ghost use Rattle.lags.specs.inner.Lags.{lag_of};
 
 // Above every distance from a pin: 511 edges of 32 registers are 16,352.
 pub const BIAS: u32 = 16384;
@@ -12,7 +12,7 @@ const SIGNED_BIAS: i32 = BIAS as i32;
 
 // The lag of a label where it is positive, else 0.
 pub fn up_of(label: u32) -> u32
-    ensures { result ≡ up (lagOf label) }
+    ensures { result ≡ up (lag_of label) }
 {
     if BIAS < label { label - BIAS } else { 0 }
 }
@@ -20,7 +20,7 @@ pub fn up_of(label: u32) -> u32
 // The lag of a label.
 pub fn lag_of(label: u32) -> i32
     requires { label < 32768 }
-    ensures { result ≡ lagOf label }
+    ensures { result ≡ lag_of label }
 {
     (label as i32) - SIGNED_BIAS
 }

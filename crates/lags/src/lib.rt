@@ -36,7 +36,7 @@ pub struct Ground {
     pub delay: [u32; NODES],
 }
 
-// Found once for all periods. What is required, `Sure`, is true of every netlist that reads (proofs/Laws, `read-sure`).
+// Found once for all periods. What is required, `Sure`, is true of every netlist that reads (proofs/Laws, `read_sure`).
 pub fn ground_of(net: Netlist) -> Ground
     requires { Sure net }
     ensures { Grounded net result }

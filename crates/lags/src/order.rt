@@ -1,5 +1,5 @@
 // The order that the rounds go by: each node stands after the source of every edge that enters it and is empty under the labels.
-// A round keeps it, once the late nodes are put first: proofs/Orders, `order-kept`.
+// A round keeps it, once the late nodes are put first: proofs/Orders, `order_kept`.
 // Private to the crate: `least` hands on a netlist that reads.
 ghost use Rattle.std.specs.Prelude.{ℕ, ◌-◌, ◌+◌, ◌≤◌, ◌<◌, length};
 ghost use Rattle.graph.specs.Columns.{at};

@@ -1,5 +1,5 @@
 // The labels to start from: 16,384 less the fewest registers between a pin and the node. No legal retiming has a lower one.
-// What is required, `Sure`, is true of every netlist that reads (proofs/Laws, `read-sure`).
+// What is required, `Sure`, is true of every netlist that reads (proofs/Laws, `read_sure`).
 ghost use Rattle.std.specs.Prelude.{◌≡◌, ℕ, ◌+◌, ◌≤◌, ◌<◌, length};
 ghost use Rattle.graph.specs.Columns.{at};
 ghost use Rattle.lags.specs.inner.Lags.{Sure};

@@ -8,7 +8,7 @@ use lib.Seq.{get_or-set_other}
 use Rattle.graph.specs.Columns.{at}
 use Rattle.graph.proofs.Fills.{fill_more}
 use Rattle.netlist.specs.Net.{zeros}
-use Rattle.netlist.proofs.Rows.{zeros-at}
+use Rattle.netlist.proofs.Rows.{zeros_at}
 use Rattle.moves.specs.inner.Columns.{Filled, none}
 
 module _ (f rest : ℕ → ℕ) (xs : List ℕ) where
@@ -21,6 +21,6 @@ module _ (f rest : ℕ → ℕ) (xs : List ℕ) where
     past = λ j l. get_or-set_other xs e j x 0 (let z : ¬ (j ≡ e) = λ y. omega arith in z) ∙ w.past j (omega arith);
   }
 
-pub filled-zeros : (f : ℕ → ℕ) (n : ℕ) → Filled f none 0 (replicate n 0)
+pub filled_zeros : (f : ℕ → ℕ) (n : ℕ) → Filled f none 0 (replicate n 0)
 unfolding zeros
-filled-zeros f n = filled_none f none (replicate n 0) (zeros-at n)
+filled_zeros f n = filled_none f none (replicate n 0) (zeros_at n)

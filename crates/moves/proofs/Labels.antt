@@ -1,7 +1,7 @@
 -- Labels and lags; the new counts and the chosen values by labels.
---   new-fits, new_is    a new count by the labels of the edge's ends
---   wide-edge, wide-none    the lowest count above 32 is retiming's
---   base-none, chosen_is    running sums
+--   new_fits, new_is    a new count by the labels of the edge's ends
+--   wide_edge, wide_none    the lowest count above 32 is retiming's
+--   base_none, chosen_is    running sums
 use Prim.Native.Nat.{ℕ, ◌+◌, ◌≤◌, ◌<◌, min}
 use native.Mathlib.Omega.{arith}
 use mathlib.Core.Path.{◌≡◌, subst, ap₂, ◌∙◌}
@@ -11,53 +11,53 @@ use Rattle.theory.specs.Move.{sum}
 use Rattle.graph.specs.Columns.{at}
 use Rattle.netlist.specs.declared.Netlist.{Netlist}
 use Rattle.netlist.specs.Circuit.{NarrowAt, WideAt}
-use Rattle.netlist.proofs.Run.{fit-rows, fit-wired}
-use Rattle.lags.specs.inner.Lags.{lagOf}
-use Rattle.lags.proofs.Laws.{lag-label}
-use Rattle.moves.specs.inner.Labels.{lagsOf, Labelled, countAt, Counts, Wide, chosenAt}
+use Rattle.netlist.proofs.Run.{fit_rows, fit_wired}
+use Rattle.lags.specs.inner.Lags.{lag_of}
+use Rattle.lags.proofs.Laws.{lag_label}
+use Rattle.moves.specs.inner.Labels.{lags_of, Labelled, count_at, Counts, Wide, chosen_at}
 
 module _ (net : Netlist) (lab : List ℕ) (s : Labelled net lab) (e : ℕ) (h : e < net.edges) where
-  pub from-node : at net.from e < net.nodes
-  from-node = (fit-wired net s.fit).src-in e h
+  pub from_node : at net.from e < net.nodes
+  from_node = (fit_wired net s.fit).src_in e h
 
-  pub to-node : at net.to e < net.nodes
-  to-node = (fit-wired net s.fit).dst-in e h
+  pub to_node : at net.to e < net.nodes
+  to_node = (fit_wired net s.fit).dst_in e h
 
-  pub low-edge : e < 1024
-  low-edge = omega (arith, fit-rows net s.fit)
+  pub low_edge : e < 1024
+  low_edge = omega (arith, fit_rows net s.fit)
 
-  pub new-fits : at lab (at net.from e) ≤ at net.count e + at lab (at net.to e)
-  new-fits = omega (arith, s.legal.fits e h, lag-label (at lab (at net.from e)), lag-label (at lab (at net.to e)))
+  pub new_fits : at lab (at net.from e) ≤ at net.count e + at lab (at net.to e)
+  new_fits = omega (arith, s.legal.fits e h, lag_label (at lab (at net.from e)), lag_label (at lab (at net.to e)))
 
-  pub new_is : (x : ℕ) → x + at lab (at net.from e) ≡ at net.count e + at lab (at net.to e) → x ≡ countAt net lab e
-  new_is x q = omega (arith, s.legal.fits e h, lag-label (at lab (at net.from e)), lag-label (at lab (at net.to e)))
+  pub new_is : (x : ℕ) → x + at lab (at net.from e) ≡ at net.count e + at lab (at net.to e) → x ≡ count_at net lab e
+  new_is x q = omega (arith, s.legal.fits e h, lag_label (at lab (at net.from e)), lag_label (at lab (at net.to e)))
 
-pub low-nodes : (net : Netlist) (lab : List ℕ) → Labelled net lab → net.nodes ≤ 512
-low-nodes net lab s = (fit-rows net s.fit).0
+pub low_nodes : (net : Netlist) (lab : List ℕ) → Labelled net lab → net.nodes ≤ 512
+low_nodes net lab s = (fit_rows net s.fit).0
 
-pub low-edges : (net : Netlist) (lab : List ℕ) → Labelled net lab → net.edges ≤ 1024
-low-edges net lab s = (fit-rows net s.fit).1
+pub low_edges : (net : Netlist) (lab : List ℕ) → Labelled net lab → net.edges ≤ 1024
+low_edges net lab s = (fit_rows net s.fit).1
 
 -- ── Counts above 32 ─────────────────────────────────────────────────────────────────────────
 
-pub wide-edge : (net : Netlist) (lab counts : List ℕ) (r : ℕ) → Counts net lab counts → Wide counts net.edges r → r < net.edges
-    → WideAt net (lagsOf lab) r
-wide-edge net lab counts r c w h = record {
+pub wide_edge : (net : Netlist) (lab counts : List ℕ) (r : ℕ) → Counts net lab counts → Wide counts net.edges r → r < net.edges
+    → WideAt net (lags_of lab) r
+wide_edge net lab counts r c w h = record {
   edge = h;
   wide = subst (λ x. 32 < x) (c r h) (w.wide h);
   lowest = λ i l. subst (λ x. x ≤ 32) (c i (omega arith)) (w.low i l);
 }
 
-pub wide-none : (net : Netlist) (lab counts : List ℕ) (r : ℕ) → Counts net lab counts → Wide counts net.edges r → ¬ (r < net.edges)
-    → NarrowAt net (lagsOf lab)
-wide-none net lab counts r c w h e l = subst (λ x. x ≤ 32) (c e l) (w.low e (omega arith))
+pub wide_none : (net : Netlist) (lab counts : List ℕ) (r : ℕ) → Counts net lab counts → Wide counts net.edges r → ¬ (r < net.edges)
+    → NarrowAt net (lags_of lab)
+wide_none net lab counts r c w h e l = subst (λ x. x ≤ 32) (c e l) (w.low e (omega arith))
 
 -- ── Chosen values ───────────────────────────────────────────────────────────────────────────
 
-pub base-none : (f : ℕ → ℕ) (xs : List ℕ) → at xs 0 ≡ 0 → (k : ℕ) → k < 0 + 1 → at xs k ≡ sum f k
+pub base_none : (f : ℕ → ℕ) (xs : List ℕ) → at xs 0 ≡ 0 → (k : ℕ) → k < 0 + 1 → at xs k ≡ sum f k
 unfolding sum
-base-none f xs q k h = subst (λ k. at xs k ≡ sum f k) (let z : 0 ≡ k = omega arith in z) q
+base_none f xs q k h = subst (λ k. at xs k ≡ sum f k) (let z : 0 ≡ k = omega arith in z) q
 
 pub chosen_is : (net : Netlist) (lab counts : List ℕ) → Counts net lab counts → (e : ℕ) → e < net.edges → (x lag : ℕ)
-    → lag ≡ up (lagOf (at lab (at net.to e))) → x ≡ min (at counts e) lag → x ≡ chosenAt net lab e
+    → lag ≡ up (lag_of (at lab (at net.to e))) → x ≡ min (at counts e) lag → x ≡ chosen_at net lab e
 chosen_is net lab counts c e h x lag p q = q ∙ ap₂ min (c e h) p

@@ -1,9 +1,9 @@
 -- Rows of a record and lines of a text, one more at a time.
---   rowsTo-in, rowsTo-past, rowsTo-is    a column's rows; that a column with 0 past its n-th row is one
+--   rows_to_in, rows_to_past, rows_to_is  a column's rows; that a column with 0 past its n-th row is one
 --   set_past            a column is 0 past its rows after one more is set
---   rows-length, rows_in, rows_at    n rows of one member each: how many there are; the i-th, whatever stands past them
+--   rows_length, rows_in, rows_at    n rows of one member each: how many there are; the i-th, whatever stands past them
 --   joined_same         the joined lines depend on the lines that are joined
---   joined-split        a line and what stands before and after it
+--   joined_split        a line and what stands before and after it
 use Prim.Native.Nat.{ℕ, zero, suc, ◌<◌, ◌≤◌}
 use native.Mathlib.Omega.{arith}
 use native.Mathlib.Decide.{ℕ_discrete, dec_lt}
@@ -18,13 +18,13 @@ use Rattle.netlist.specs.inner.Record.{rows_to}
 
 -- ── Columns ─────────────────────────────────────────────────────────────────────────────────
 
-pub length-zeros : (m : ℕ) → length (zeros m) ≡ m
+pub length_zeros : (m : ℕ) → length (zeros m) ≡ m
 unfolding zeros
-length-zeros m = length-replicate m 0
+length_zeros m = length-replicate m 0
 
-pub zeros-at : (m i : ℕ) → get_or (zeros m) i 0 ≡ 0
+pub zeros_at : (m i : ℕ) → get_or (zeros m) i 0 ≡ 0
 unfolding zeros
-zeros-at m i = go (dec_lt i m)
+zeros_at m i = go (dec_lt i m)
   where
     go : Dec (i < m) → get_or (zeros m) i 0 ≡ 0
     go (yes h) = get_or-replicate m i 0 0 h
@@ -33,30 +33,30 @@ zeros-at m i = go (dec_lt i m)
 pub set_past : (xs : List ℕ) (n a : ℕ) → ((i : ℕ) → n ≤ i → get_or xs i 0 ≡ 0) → (i : ℕ) → suc n ≤ i → get_or (set xs n a) i 0 ≡ 0
 set_past xs n a k i l = get_or-set_other xs n i a 0 (omega arith) ∙ k i (omega arith)
 
-pub length-rowsTo : (m : ℕ) (f : ℕ → ℕ) (n : ℕ) → length (rows_to m f n) ≡ m
+pub length_rows_to : (m : ℕ) (f : ℕ → ℕ) (n : ℕ) → length (rows_to m f n) ≡ m
 unfolding rows_to
-length-rowsTo m f zero = length-zeros m
-length-rowsTo m f (suc n) = length-set (rows_to m f n) n (f n) ∙ length-rowsTo m f n
+length_rows_to m f zero = length_zeros m
+length_rows_to m f (suc n) = length-set (rows_to m f n) n (f n) ∙ length_rows_to m f n
 
-pub rowsTo-in : (m : ℕ) (f : ℕ → ℕ) (n : ℕ) → n ≤ m → (i : ℕ) → i < n → get_or (rows_to m f n) i 0 ≡ f i
+pub rows_to_in : (m : ℕ) (f : ℕ → ℕ) (n : ℕ) → n ≤ m → (i : ℕ) → i < n → get_or (rows_to m f n) i 0 ≡ f i
 unfolding rows_to
-rowsTo-in m f zero h i l = absurd (omega arith)
-rowsTo-in m f (suc n) h i l = fill_more f (rows_to m f n) n (f n) (omega (arith, length-rowsTo m f n)) refl (rowsTo-in m f n (omega arith)) i (omega arith)
+rows_to_in m f zero h i l = absurd (omega arith)
+rows_to_in m f (suc n) h i l = fill_more f (rows_to m f n) n (f n) (omega (arith, length_rows_to m f n)) refl (rows_to_in m f n (omega arith)) i (omega arith)
 
-pub rowsTo-past : (m : ℕ) (f : ℕ → ℕ) (n i : ℕ) → n ≤ i → get_or (rows_to m f n) i 0 ≡ 0
+pub rows_to_past : (m : ℕ) (f : ℕ → ℕ) (n i : ℕ) → n ≤ i → get_or (rows_to m f n) i 0 ≡ 0
 unfolding rows_to
-rowsTo-past m f zero i h = zeros-at m i
-rowsTo-past m f (suc n) i h = set_past (rows_to m f n) n (f n) (rowsTo-past m f n) i h
+rows_to_past m f zero i h = zeros_at m i
+rows_to_past m f (suc n) i h = set_past (rows_to m f n) n (f n) (rows_to_past m f n) i h
 
-pub rowsTo-is : (m n : ℕ) (xs : List ℕ) → length xs ≡ m → n ≤ m → ((i : ℕ) → n ≤ i → get_or xs i 0 ≡ 0) → rows_to m (λ i. get_or xs i 0) n ≡ xs
-rowsTo-is m n xs q h past = ext_get_or 0 (rows_to m f n) xs (length-rowsTo m f n ∙ sym q) (λ i l. go i (dec_lt i n))
+pub rows_to_is : (m n : ℕ) (xs : List ℕ) → length xs ≡ m → n ≤ m → ((i : ℕ) → n ≤ i → get_or xs i 0 ≡ 0) → rows_to m (λ i. get_or xs i 0) n ≡ xs
+rows_to_is m n xs q h past = ext_get_or 0 (rows_to m f n) xs (length_rows_to m f n ∙ sym q) (λ i l. go i (dec_lt i n))
   where
     f : ℕ → ℕ
     f i = get_or xs i 0
 
     go : (i : ℕ) → Dec (i < n) → get_or (rows_to m f n) i 0 ≡ get_or xs i 0
-    go i (yes l) = rowsTo-in m f n h i l
-    go i (no l) = rowsTo-past m f n i (omega arith) ∙ sym (past i (omega arith))
+    go i (yes l) = rows_to_in m f n h i l
+    go i (no l) = rows_to_past m f n i (omega arith) ∙ sym (past i (omega arith))
 
 -- ── Lines ───────────────────────────────────────────────────────────────────────────────────
 
@@ -65,10 +65,10 @@ unfolding joined
 joined_same f g zero h = refl
 joined_same f g (suc n) h = ap₂ ◌++◌ (joined_same f g n (λ i l. h i (omega arith))) (h n (omega arith))
 
-pub joined-split : {A : Type 0} (f : ℕ → List A) (n v : ℕ) → v < n → (rest : List A) × (joined f n ≡ joined f v ++ (f v ++ rest))
+pub joined_split : {A : Type 0} (f : ℕ → List A) (n v : ℕ) → v < n → (rest : List A) × (joined f n ≡ joined f v ++ (f v ++ rest))
 unfolding joined
-joined-split f zero v h = absurd (omega arith)
-joined-split {A} f (suc n) v h = go (ℕ_discrete v n) (joined-split f n v)
+joined_split f zero v h = absurd (omega arith)
+joined_split {A} f (suc n) v h = go (ℕ_discrete v n) (joined_split f n v)
   where
     go : Dec (v ≡ n) → (v < n → (rest : List A) × (joined f n ≡ joined f v ++ (f v ++ rest))) → (rest : List A) × (joined f (suc n) ≡ joined f v ++ (f v ++ rest))
     go (yes e) r = ([], rw e (simp append-nil))
@@ -77,13 +77,13 @@ joined-split {A} f (suc n) v h = go (ℕ_discrete v n) (joined-split f n v)
 -- ── Rows of one member each, of any kind ────────────────────────────────────────────────────
 
 module _ {A : Type 0} (f : ℕ → A) where
-  pub rows-length : (n : ℕ) → length (joined (λ i. f i ∷ []) n) ≡ n
+  pub rows_length : (n : ℕ) → length (joined (λ i. f i ∷ []) n) ≡ n
   unfolding joined
-  rows-length zero = refl
-  rows-length (suc n) = length-append (joined (λ i. f i ∷ []) n) (f n ∷ []) ∙ omega (arith, rows-length n)
+  rows_length zero = refl
+  rows_length (suc n) = length-append (joined (λ i. f i ∷ []) n) (f n ∷ []) ∙ omega (arith, rows_length n)
 
   pub rows_in : (d : A) (n i : ℕ) → i < n → get_or (joined (λ i. f i ∷ []) n) i d ≡ f i
-  rows_in d n i h = let s = joined-split (λ i. f i ∷ []) n i h in ap (λ l. get_or l i d) s.1 ∙ get_or_at (joined (λ i. f i ∷ []) i) (f i) s.0 d i (rows-length i)
+  rows_in d n i h = let s = joined_split (λ i. f i ∷ []) n i h in ap (λ l. get_or l i d) s.1 ∙ get_or_at (joined (λ i. f i ∷ []) i) (f i) s.0 d i (rows_length i)
 
   pub rows_at : (d : A) (n i : ℕ) (past : List A) → i < n → get_or (joined (λ i. f i ∷ []) n ++ past) i d ≡ f i
-  rows_at d n i past h = get_or-append (joined (λ i. f i ∷ []) n) past d i (omega (arith, rows-length n)) ∙ rows_in d n i h
+  rows_at d n i past h = get_or-append (joined (λ i. f i ∷ []) n) past d i (omega (arith, rows_length n)) ∙ rows_in d n i h

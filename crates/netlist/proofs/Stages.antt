@@ -1,10 +1,10 @@
 -- Reading a line, in each way that it can go: no line there; a line whose numbers break its rule; a line that fills a row.
 --   Opened, opened, closed         a line decoded by code: its bytes, its numbers and where it ends; or that there is none
---   opened-read                    its fields are those in the code's array
+--   opened_read                    its fields are those in the code's array
 --   head-.., node-.., edge-..      what the lines from there on come to, in each of the three ways
---   goes-fault, empty-bounds       a stage that stops at a fault
---   goes-done                      a stage that goes on
---   ends-surplus                   what stands behind the last line
+--   goes_fault, empty_bounds       a stage that stops at a fault
+--   goes_done                      a stage that goes on
+--   ends_surplus                   what stands behind the last line
 use Prim.Native.Nat.{ℕ, suc, ◌+◌, ◌-◌, ◌*◌, ◌≤◌, ◌<◌}
 use mathlib.Core.Path.{◌≡◌, ap, sym, ◌∙◌, subst}
 use mathlib.Core.Bool.{true, false}
@@ -16,38 +16,38 @@ use lib.ListN.{length, get_or, drop, replicate, length-append, length-replicate}
 use Rattle.frame.specs.declared.Frame.{Frame}
 use Rattle.frame.specs.Frame.{bad, line, frame_at, number_at}
 use Rattle.frame.specs.inner.Decoded.{framed}
-use Rattle.frame.proofs.Laws.{frame-rest, frame-drop}
-use Rattle.frame.proofs.Buffers.{framed-bad, framed-line}
+use Rattle.frame.proofs.Laws.{frame_rest, frame_drop}
+use Rattle.frame.proofs.Buffers.{framed_bad, framed_line}
 use Rattle.netlist.specs.declared.Netlist.{Netlist}
 use Rattle.netlist.specs.declared.Answer.{Answer}
 use Rattle.netlist.specs.declared.Answer.TheVariants.{Done, Refused}
 use Rattle.netlist.specs.declared.Place.TheVariants.{Line}
-use Rattle.netlist.specs.Answer.{atLine}
+use Rattle.netlist.specs.Answer.{at_line}
 use Rattle.netlist.specs.inner.Stages.{Goes}
-use Rattle.netlist.specs.Net.{emptyNet, with_head, withNode, withEdge, graph_of}
-use Rattle.rules.specs.Rules.{headFits, nodeFits, edgeFits}
-use Rattle.netlist.specs.Read.{firstLine, Lines, fault, nothingMore, edgesFrom, nodesFrom, lines_of}
-use Rattle.netlist.proofs.Fields.{lineSize, Fields, Read, widths, widths-least, headFields, edgeFields}
-use Rattle.netlist.proofs.Numbers.{number-one, number-two, number-four, front}
+use Rattle.netlist.specs.Net.{empty_net, with_head, with_node, with_edge, graph_of}
+use Rattle.rules.specs.Rules.{head_fits, node_fits, edge_fits}
+use Rattle.netlist.specs.Read.{first_line, Lines, fault, nothing_more, edges_from, nodes_from, lines_of}
+use Rattle.netlist.proofs.Fields.{line_size, Fields, Read, widths, widths_least, head_fields, edge_fields}
+use Rattle.netlist.proofs.Numbers.{number_one, number_two, number_four, front}
 
 -- The line of kind k with n more bytes at `at`, as code has decoded it into the bytes xs.
 pub record Opened (k n at : ℕ) (t xs : List ℕ) : Type 0 where
   pub bytes : List ℕ
-  pub reads : frame_at k n (drop at t) ≡ line bytes (drop (at + lineSize n) t)
+  pub reads : frame_at k n (drop at t) ≡ line bytes (drop (at + line_size n) t)
   pub same : (i m : ℕ) → i + m ≤ n → number_at i m bytes ≡ number_at i m xs
   pub wide : length xs ≡ 16
-  pub room : at + lineSize n ≤ length t
+  pub room : at + line_size n ≤ length t
 
 module _ (k n at : ℕ) (t : List ℕ) (f : Frame) (e : f ≡ framed k n (drop at t)) (small : n ≤ 16) where
   pub closed : f.ok ≡ false → frame_at k n (drop at t) ≡ bad
-  closed q = framed-bad k n (drop at t) small (sym (ap (λ g. g.ok) e) ∙ q)
+  closed q = framed_bad k n (drop at t) small (sym (ap (λ g. g.ok) e) ∙ q)
 
   pub opened : f.ok ≡ true → Opened k n at t f.bytes
   opened q =
-      let l = framed-line k n (drop at t) small (sym (ap (λ g. g.ok) e) ∙ q) in
+      let l = framed_line k n (drop at t) small (sym (ap (λ g. g.ok) e) ∙ q) in
       let bs = l.0 in
-      let d = frame-drop k n at t bs l.1.0 l.1.1.0 in
-      let r = (frame-rest k n (drop at t) bs l.1.0 l.1.1.0).0 in
+      let d = frame_drop k n at t bs l.1.0 l.1.1.0 in
+      let r = (frame_rest k n (drop at t) bs l.1.0 l.1.1.0).0 in
       let b : f.bytes ≡ bs ++ replicate (16 - n) 0 = ap (λ g. g.bytes) e ∙ l.1.1.1 in
       record {
         bytes = bs;
@@ -58,93 +58,93 @@ module _ (k n at : ℕ) (t : List ℕ) (f : Frame) (e : f ≡ framed k n (drop a
       }
 
 -- The numbers that code takes out of its array are those of the line.
-opened-read : {k n at : ℕ} {t xs : List ℕ} (o : Opened k n at t xs) (fs : Fields) (i : ℕ) → widths i fs ≤ n → Read i fs xs → Read i fs o.bytes
-opened-read o [] i h r = tt
-opened-read o (f ∷ fs) i h r = (o.same i f.0 (omega (arith, widths-least fs (i + f.0))) ∙ r.0, opened-read o fs (i + f.0) h r.1)
+opened_read : {k n at : ℕ} {t xs : List ℕ} (o : Opened k n at t xs) (fs : Fields) (i : ℕ) → widths i fs ≤ n → Read i fs xs → Read i fs o.bytes
+opened_read o [] i h r = tt
+opened_read o (f ∷ fs) i h r = (o.same i f.0 (omega (arith, widths_least fs (i + f.0))) ∙ r.0, opened_read o fs (i + f.0) h r.1)
 
 -- ── The head ────────────────────────────────────────────────────────────────────────────────
 
-pub head-none : (t : List ℕ) → frame_at 1 7 t ≡ bad → lines_of t ≡ fault (atLine 1 1)
+pub head_none : (t : List ℕ) → frame_at 1 7 t ≡ bad → lines_of t ≡ fault (at_line 1 1)
 unfolding lines_of
-head-none t q = rw q
+head_none t q = rw q
 
 module _ (t xs : List ℕ) (o : Opened 1 7 0 t xs) (p d n m : ℕ)
     (hp : p ≡ get_or xs 0 0 * 256 + get_or xs 1 0) (hd : d ≡ get_or xs 2 0) (hn : n ≡ get_or xs 3 0 * 256 + get_or xs 4 0) (hm : m ≡ get_or xs 5 0 * 256 + get_or xs 6 0) where
-  head-numbers : Read 0 (headFields p d n m) o.bytes
-  head-numbers =
+  head_numbers : Read 0 (head_fields p d n m) o.bytes
+  head_numbers =
       let w = o.wide in
-      opened-read o (headFields p d n m) 0 (omega arith)
-      (number-two xs 0 (omega arith) ∙ sym hp, (number-one xs 2 (omega arith) ∙ sym hd, (number-two xs 3 (omega arith) ∙ sym hn, (number-two xs 5 (omega arith) ∙ sym hm, tt))))
+      opened_read o (head_fields p d n m) 0 (omega arith)
+      (number_two xs 0 (omega arith) ∙ sym hp, (number_one xs 2 (omega arith) ∙ sym hd, (number_two xs 3 (omega arith) ∙ sym hn, (number_two xs 5 (omega arith) ∙ sym hm, tt))))
 
-  pub head-wrong : headFits p d n m ≡ false → lines_of t ≡ fault (atLine 2 1)
+  pub head_wrong : head_fits p d n m ≡ false → lines_of t ≡ fault (at_line 2 1)
   unfolding lines_of
-  head-wrong q = let h = head-numbers in rw (o.reads, h.0, h.1.0, h.1.1.0, h.1.1.1.0, q)
+  head_wrong q = let h = head_numbers in rw (o.reads, h.0, h.1.0, h.1.1.0, h.1.1.1.0, q)
 
-  pub head-good : headFits p d n m ≡ true → lines_of t ≡ nodesFrom n 0 (firstLine (with_head p d n m)) (drop (lineSize 7) t) (with_head p d n m)
+  pub head_good : head_fits p d n m ≡ true → lines_of t ≡ nodes_from n 0 (first_line (with_head p d n m)) (drop (line_size 7) t) (with_head p d n m)
   unfolding lines_of
-  head-good q = let h = head-numbers in rw (o.reads, h.0, h.1.0, h.1.1.0, h.1.1.1.0, q)
+  head_good q = let h = head_numbers in rw (o.reads, h.0, h.1.0, h.1.1.0, h.1.1.1.0, q)
 
 -- ── A node ──────────────────────────────────────────────────────────────────────────────────
 
 -- Node i of m more, on line b.
 module _ (t : List ℕ) (at m i b : ℕ) (net : Netlist) where
-  pub node-none : frame_at 2 2 (drop at t) ≡ bad → nodesFrom (suc m) i b (drop at t) net ≡ fault (atLine 1 b)
-  unfolding nodesFrom
-  node-none q = rw q
+  pub node_none : frame_at 2 2 (drop at t) ≡ bad → nodes_from (suc m) i b (drop at t) net ≡ fault (at_line 1 b)
+  unfolding nodes_from
+  node_none q = rw q
 
   module _ (xs : List ℕ) (o : Opened 2 2 at t xs) where
-    node-numbers : (number_at 0 1 o.bytes ≡ get_or xs 0 0) × (number_at 1 1 o.bytes ≡ get_or xs 1 0)
-    node-numbers =
+    node_numbers : (number_at 0 1 o.bytes ≡ get_or xs 0 0) × (number_at 1 1 o.bytes ≡ get_or xs 1 0)
+    node_numbers =
         let w = o.wide in
-        (o.same 0 1 (omega arith) ∙ number-one xs 0 (omega arith), o.same 1 1 (omega arith) ∙ number-one xs 1 (omega arith))
+        (o.same 0 1 (omega arith) ∙ number_one xs 0 (omega arith), o.same 1 1 (omega arith) ∙ number_one xs 1 (omega arith))
 
-    pub node-wrong : nodeFits (get_or xs 0 0) (get_or xs 1 0) ≡ false → nodesFrom (suc m) i b (drop at t) net ≡ fault (atLine 3 b)
-    unfolding nodesFrom
-    node-wrong q = let h = node-numbers in rw (o.reads, h.0, h.1, q)
+    pub node_wrong : node_fits (get_or xs 0 0) (get_or xs 1 0) ≡ false → nodes_from (suc m) i b (drop at t) net ≡ fault (at_line 3 b)
+    unfolding nodes_from
+    node_wrong q = let h = node_numbers in rw (o.reads, h.0, h.1, q)
 
-    pub node-good : nodeFits (get_or xs 0 0) (get_or xs 1 0) ≡ true
-        → nodesFrom (suc m) i b (drop at t) net ≡ nodesFrom m (i + 1) (b + 1) (drop (at + lineSize 2) t) (withNode net i (get_or xs 0 0) (get_or xs 1 0))
-    unfolding nodesFrom
-    node-good q = let h = node-numbers in rw (o.reads, h.0, h.1, q, add-one i, add-one b)
+    pub node_good : node_fits (get_or xs 0 0) (get_or xs 1 0) ≡ true
+        → nodes_from (suc m) i b (drop at t) net ≡ nodes_from m (i + 1) (b + 1) (drop (at + line_size 2) t) (with_node net i (get_or xs 0 0) (get_or xs 1 0))
+    unfolding nodes_from
+    node_good q = let h = node_numbers in rw (o.reads, h.0, h.1, q, add-one i, add-one b)
 
 -- ── An edge ─────────────────────────────────────────────────────────────────────────────────
 
 -- Edge e of m more, on line b.
 module _ (t : List ℕ) (at m e b : ℕ) (net : Netlist) where
-  pub edge_none : frame_at 3 9 (drop at t) ≡ bad → edgesFrom (suc m) e b (drop at t) net ≡ fault (atLine 1 b)
-  unfolding edgesFrom
+  pub edge_none : frame_at 3 9 (drop at t) ≡ bad → edges_from (suc m) e b (drop at t) net ≡ fault (at_line 1 b)
+  unfolding edges_from
   edge_none q = rw q
 
   module _ (xs : List ℕ) (o : Opened 3 9 at t xs) (u v w s : ℕ)
       (hu : u ≡ get_or xs 0 0 * 256 + get_or xs 1 0) (hv : v ≡ get_or xs 2 0 * 256 + get_or xs 3 0) (hw : w ≡ get_or xs 4 0)
       (hs : s ≡ (get_or xs 5 0 * 256 + get_or xs 6 0) * 65536 + (get_or xs 7 0 * 256 + get_or xs 8 0)) where
-    edge-numbers : Read 0 (edgeFields u v w s) o.bytes
-    edge-numbers =
+    edge_numbers : Read 0 (edge_fields u v w s) o.bytes
+    edge_numbers =
         let l = o.wide in
-        opened-read o (edgeFields u v w s) 0 (omega arith)
-        (number-two xs 0 (omega arith) ∙ sym hu, (number-two xs 2 (omega arith) ∙ sym hv, (number-one xs 4 (omega arith) ∙ sym hw, (number-four xs 5 (omega arith) ∙ sym hs, tt))))
+        opened_read o (edge_fields u v w s) 0 (omega arith)
+        (number_two xs 0 (omega arith) ∙ sym hu, (number_two xs 2 (omega arith) ∙ sym hv, (number_one xs 4 (omega arith) ∙ sym hw, (number_four xs 5 (omega arith) ∙ sym hs, tt))))
 
-    pub edge-wrong : edgeFits net.nodes (graph_of net).kind u v w s ≡ false → edgesFrom (suc m) e b (drop at t) net ≡ fault (atLine 4 b)
-    unfolding edgesFrom
-    edge-wrong q = let h = edge-numbers in rw (o.reads, h.0, h.1.0, h.1.1.0, h.1.1.1.0, q)
+    pub edge_wrong : edge_fits net.nodes (graph_of net).kind u v w s ≡ false → edges_from (suc m) e b (drop at t) net ≡ fault (at_line 4 b)
+    unfolding edges_from
+    edge_wrong q = let h = edge_numbers in rw (o.reads, h.0, h.1.0, h.1.1.0, h.1.1.1.0, q)
 
-    pub edge-good : edgeFits net.nodes (graph_of net).kind u v w s ≡ true
-        → edgesFrom (suc m) e b (drop at t) net ≡ edgesFrom m (e + 1) (b + 1) (drop (at + lineSize 9) t) (withEdge net e u v w s)
-    unfolding edgesFrom
-    edge-good q = let h = edge-numbers in rw (o.reads, h.0, h.1.0, h.1.1.0, h.1.1.1.0, q, add-one e, add-one b)
+    pub edge_good : edge_fits net.nodes (graph_of net).kind u v w s ≡ true
+        → edges_from (suc m) e b (drop at t) net ≡ edges_from m (e + 1) (b + 1) (drop (at + line_size 9) t) (with_edge net e u v w s)
+    unfolding edges_from
+    edge_good q = let h = edge_numbers in rw (o.reads, h.0, h.1.0, h.1.1.0, h.1.1.1.0, q, add-one e, add-one b)
 
 -- ── The ends of a stage ─────────────────────────────────────────────────────────────────────
 
-pub goes-fault : {a : Answer} {q n : ℕ} {whole : Lines} (rest : Lines) {net : Netlist}
-    → a ≡ Refused q (Line n) → net ≡ emptyNet → whole ≡ fault (atLine q n) → Goes a whole rest net
-goes-fault {whole = whole} rest {net} e h w = subst (λ a. Goes a whole rest net) (sym e) (w, h)
+pub goes_fault : {a : Answer} {q n : ℕ} {whole : Lines} (rest : Lines) {net : Netlist}
+    → a ≡ Refused q (Line n) → net ≡ empty_net → whole ≡ fault (at_line q n) → Goes a whole rest net
+goes_fault {whole = whole} rest {net} e h w = subst (λ a. Goes a whole rest net) (sym e) (w, h)
 
-pub empty-bounds : {A : Type 0} {net : Netlist} {line most : ℕ} → A × (net ≡ emptyNet) × (line ≡ 0) → (net.nodes ≤ 512) × (net.edges ≤ 1024) × (line ≤ most)
+pub empty_bounds : {A : Type 0} {net : Netlist} {line most : ℕ} → A × (net ≡ empty_net) × (line ≡ 0) → (net.nodes ≤ 512) × (net.edges ≤ 1024) × (line ≤ most)
 unfolding with_head
-empty-bounds h = (omega (arith, ap (λ n. n.nodes) h.1), omega (arith, ap (λ n. n.edges) h.1), omega (arith, h.2))
+empty_bounds h = (omega (arith, ap (λ n. n.nodes) h.1), omega (arith, ap (λ n. n.edges) h.1), omega (arith, h.2))
 
-pub goes-done : (a : Answer) (whole rest : Lines) (net : Netlist) {n : ℕ} → a ≡ Done n → Goes a whole rest net → whole ≡ rest
-goes-done a whole rest net e g = subst (λ b. Goes b whole rest net) e g
+pub goes_done : (a : Answer) (whole rest : Lines) (net : Netlist) {n : ℕ} → a ≡ Done n → Goes a whole rest net → whole ≡ rest
+goes_done a whole rest net e g = subst (λ b. Goes b whole rest net) e g
 
-pub ends-surplus : (t : List ℕ) (at n : ℕ) (net : Netlist) → at < length t → nothingMore (drop at t) n net ≡ fault (atLine 1 n)
-ends-surplus t at n net h = rw (drop-cons t at 0 h)
+pub ends_surplus : (t : List ℕ) (at n : ℕ) (net : Netlist) → at < length t → nothing_more (drop at t) n net ≡ fault (at_line 1 n)
+ends_surplus t at n net h = rw (drop-cons t at 0 h)

@@ -1,7 +1,7 @@
 -- The theorems of reading and writing, beside the calls' own contracts. Each is a type; proofs/theorems has a term of it.
 --   SomeReading, OneReading                every text has exactly one outcome
 --   SomeWriting, OneWriting                a record has exactly one writing into each buffer
---   headTest, nodeTest, edgeTest           a line of a record keeps its rule
+--   head_test, node_test, edge_test        a line of a record keeps its rule
 --   Fit, Clean                             all its lines do; the rows past them are 0
 --   LinesFact, FaultFact, FaultPlace       when the lines are right, and which line is refused with which number
 --   RefusalFacts                           when 5, 6, 7 and nothing is given
@@ -21,12 +21,12 @@ use Rattle.theory.specs.Walk.{FromInput}
 use Rattle.graph.specs.declared.layers.Layer.{Layer}
 use Rattle.graph.specs.Layers.{Told}
 use Rattle.netlist.specs.declared.Netlist.{Netlist}
-use Rattle.netlist.specs.Answer.{Said, value, whole, atNode, atLine}
+use Rattle.netlist.specs.Answer.{Said, value, whole, at_node, at_line}
 use Rattle.netlist.specs.Net.{rounded, working, graph_of}
 use Rattle.netlist.specs.Circuit.{LoopIn, SoundIn}
-use Rattle.rules.specs.Rules.{headFits, nodeFits, edgeFits}
-use Rattle.netlist.specs.Read.{lineOfNode, lineOfEdge, headRight, nodeRight, edgeRight, fault, lines, lines_of, Judged, Reads, AllInReach, FanInsFit, OutOfReach, WrongFanIn}
-use Rattle.netlist.specs.Write.{headLine, nodeLine, edgeLine, joined, text_of, Writes}
+use Rattle.rules.specs.Rules.{head_fits, node_fits, edge_fits}
+use Rattle.netlist.specs.Read.{line_of_node, line_of_edge, head_right, node_right, edge_right, fault, lines, lines_of, Judged, Reads, AllInReach, FanInsFit, OutOfReach, WrongFanIn}
+use Rattle.netlist.specs.Write.{head_line, node_line, edge_line, joined, text_of, Writes}
 use Rattle.netlist.specs.Walk.{Walks}
 
 -- ── No answer is free ───────────────────────────────────────────────────────────────────────
@@ -48,20 +48,20 @@ OneWriting = (net : Netlist) (old : List ℕ) (s s' : Said) (new new' : List ℕ
 -- ── Each number is given exactly when its fact holds and no earlier one does ────────────────
 
 -- A record's head, node v and edge e keep their rules: 2, 3 and 4.
-abbrev pub headTest : Netlist → Bool
-headTest net = headFits net.period net.derate net.nodes net.edges
+abbrev pub head_test : Netlist → Bool
+head_test net = head_fits net.period net.derate net.nodes net.edges
 
-abbrev pub nodeTest : Netlist → ℕ → Bool
-nodeTest net v = nodeFits (get_or net.kind v 0) (get_or net.delay v 0)
+abbrev pub node_test : Netlist → ℕ → Bool
+node_test net v = node_fits (get_or net.kind v 0) (get_or net.delay v 0)
 
-abbrev pub edgeTest : Netlist → ℕ → Bool
-edgeTest net e = edgeFits net.nodes (graph_of net).kind (get_or net.from e 0) (get_or net.to e 0) (get_or net.count e 0) (get_or net.start e 0)
+abbrev pub edge_test : Netlist → ℕ → Bool
+edge_test net e = edge_fits net.nodes (graph_of net).kind (get_or net.from e 0) (get_or net.to e 0) (get_or net.count e 0) (get_or net.start e 0)
 
 -- The head, the first n nodes and the first m edges do.
 pub record FitTo (net : Netlist) (n m : ℕ) : Type 0 where
-  pub head : headTest net ≡ true
-  pub node : (v : ℕ) → v < n → nodeTest net v ≡ true
-  pub edge : (e : ℕ) → e < m → edgeTest net e ≡ true
+  pub head : head_test net ≡ true
+  pub node : (v : ℕ) → v < n → node_test net v ≡ true
+  pub edge : (e : ℕ) → e < m → edge_test net e ≡ true
 
 abbrev pub Fit : Netlist → Type 0
 Fit net = FitTo net net.nodes net.edges
@@ -81,38 +81,38 @@ abbrev pub LinesFact : Type 0
 LinesFact = (t : List ℕ) (net : Netlist) → (lines_of t ≡ lines net) ↔ (Fit net × Clean net × (t ≡ text_of net))
 
 -- The lines before a node's and before an edge's.
-abbrev pub toNode : Netlist → ℕ → List ℕ
-toNode net v = headLine net ++ joined (nodeLine net) v
+abbrev pub to_node : Netlist → ℕ → List ℕ
+to_node net v = head_line net ++ joined (node_line net) v
 
-abbrev pub toEdge : Netlist → ℕ → List ℕ
-toEdge net e = headLine net ++ joined (nodeLine net) net.nodes ++ joined (edgeLine net) e
+abbrev pub to_edge : Netlist → ℕ → List ℕ
+to_edge net e = head_line net ++ joined (node_line net) net.nodes ++ joined (edge_line net) e
 
 -- The first line that has a fault, and which. What stands before it is lines of a netlist that keep their rules; `rest` begins with the faulty line.
 pub data FaultAt (t : List ℕ) : ℕ → ℕ → Type 0 where
-  head-frame : frame_at 1 7 t ≡ bad → FaultAt t 1 1
-  head-range : (bs rest : List ℕ) → frame_at 1 7 t ≡ line bs rest
-      → headRight bs ≡ false → FaultAt t 2 1
-  node-frame : (net : Netlist) (v : ℕ) (rest : List ℕ) → FitTo net v 0 → v < net.nodes → t ≡ toNode net v ++ rest → frame_at 2 2 rest ≡ bad → FaultAt t 1 (lineOfNode net v)
-  node-rule : (net : Netlist) (v : ℕ) (rest bs more : List ℕ) → FitTo net v 0 → v < net.nodes → t ≡ toNode net v ++ rest → frame_at 2 2 rest ≡ line bs more
-      → nodeRight bs ≡ false → FaultAt t 3 (lineOfNode net v)
-  edge-frame : (net : Netlist) (e : ℕ) (rest : List ℕ) → FitTo net net.nodes e → e < net.edges → t ≡ toEdge net e ++ rest → frame_at 3 9 rest ≡ bad
-      → FaultAt t 1 (lineOfEdge net e)
-  edge-rule : (net : Netlist) (e : ℕ) (rest bs more : List ℕ) → FitTo net net.nodes e → e < net.edges → t ≡ toEdge net e ++ rest → frame_at 3 9 rest ≡ line bs more
-      → edgeRight net bs ≡ false → FaultAt t 4 (lineOfEdge net e)
-  surplus : (net : Netlist) (rest : List ℕ) → FitTo net net.nodes net.edges → t ≡ text_of net ++ rest → ¬ (rest ≡ []) → FaultAt t 1 (lineOfEdge net net.edges)
+  head_frame : frame_at 1 7 t ≡ bad → FaultAt t 1 1
+  head_range : (bs rest : List ℕ) → frame_at 1 7 t ≡ line bs rest
+      → head_right bs ≡ false → FaultAt t 2 1
+  node_frame : (net : Netlist) (v : ℕ) (rest : List ℕ) → FitTo net v 0 → v < net.nodes → t ≡ to_node net v ++ rest → frame_at 2 2 rest ≡ bad → FaultAt t 1 (line_of_node net v)
+  node_rule : (net : Netlist) (v : ℕ) (rest bs more : List ℕ) → FitTo net v 0 → v < net.nodes → t ≡ to_node net v ++ rest → frame_at 2 2 rest ≡ line bs more
+      → node_right bs ≡ false → FaultAt t 3 (line_of_node net v)
+  edge_frame : (net : Netlist) (e : ℕ) (rest : List ℕ) → FitTo net net.nodes e → e < net.edges → t ≡ to_edge net e ++ rest → frame_at 3 9 rest ≡ bad
+      → FaultAt t 1 (line_of_edge net e)
+  edge_rule : (net : Netlist) (e : ℕ) (rest bs more : List ℕ) → FitTo net net.nodes e → e < net.edges → t ≡ to_edge net e ++ rest → frame_at 3 9 rest ≡ line bs more
+      → edge_right net bs ≡ false → FaultAt t 4 (line_of_edge net e)
+  surplus : (net : Netlist) (rest : List ℕ) → FitTo net net.nodes net.edges → t ≡ text_of net ++ rest → ¬ (rest ≡ []) → FaultAt t 1 (line_of_edge net net.edges)
 
 abbrev pub FaultFact : Type 0
-FaultFact = (t : List ℕ) (q n : ℕ) → (lines_of t ≡ fault (atLine q n)) ↔ FaultAt t q n
+FaultFact = (t : List ℕ) (q n : ℕ) → (lines_of t ≡ fault (at_line q n)) ↔ FaultAt t q n
 
 -- A fault of the lines is always at a line.
 abbrev pub FaultPlace : Type 0
-FaultPlace = (t : List ℕ) (s : Said) → lines_of t ≡ fault s → (q : ℕ) × (n : ℕ) × (s ≡ atLine q n) × FaultAt t q n
+FaultPlace = (t : List ℕ) (s : Said) → lines_of t ≡ fault s → (q : ℕ) × (n : ℕ) × (s ≡ at_line q n) × FaultAt t q n
 
 -- 5, 6, 7 and success, of a text whose lines have no fault.
 pub record WholeFacts (t : List ℕ) (s : Said) (net read : Netlist) (h : lines_of t ≡ lines read) (r : Reads t s net) : Type 0 where
-  pub five : (v : ℕ) → (s ≡ atNode 5 v) ↔ WrongFanIn read v
+  pub five : (v : ℕ) → (s ≡ at_node 5 v) ↔ WrongFanIn read v
   pub six : (s ≡ whole 6) ↔ (FanInsFit read × LoopIn read)
-  pub seven : (v : ℕ) → (s ≡ atNode 7 v)
+  pub seven : (v : ℕ) → (s ≡ at_node 7 v)
       ↔ (FanInsFit read × (¬ LoopIn read) × OutOfReach read v)
   pub none : (s ≡ value 0)
       ↔ (FanInsFit read × (¬ LoopIn read) × AllInReach read)
@@ -144,18 +144,18 @@ pub record Typed (net : Netlist) : Type 0 where
 -- "check 2 to 7 as if its lines were read": a record's lines are never refused 1, and are refused nothing exactly where they keep the rules.
 abbrev pub RecordFact : Type 0
 RecordFact = (net : Netlist) → Typed net
-    → ((n : ℕ) → ¬ (lines_of (text_of net) ≡ fault (atLine 1 n)))
+    → ((n : ℕ) → ¬ (lines_of (text_of net) ≡ fault (at_line 1 n)))
     × (((back : Netlist) × (lines_of (text_of net) ≡ lines back)) ↔ Fit net)
     × ((back : Netlist) → lines_of (text_of net) ≡ lines back → Same net back × Clean back)
 
 -- The first line of a record that breaks its rule: 2, 3 or 4, and its number.
 pub data RecordFault (net : Netlist) : ℕ → ℕ → Type 0 where
-  bad-head : headTest net ≡ false → RecordFault net 2 1
-  bad-node : (v : ℕ) → FitTo net v 0 → v < net.nodes → nodeTest net v ≡ false → RecordFault net 3 (lineOfNode net v)
-  bad-edge : (e : ℕ) → FitTo net net.nodes e → e < net.edges → edgeTest net e ≡ false → RecordFault net 4 (lineOfEdge net e)
+  bad_head : head_test net ≡ false → RecordFault net 2 1
+  bad_node : (v : ℕ) → FitTo net v 0 → v < net.nodes → node_test net v ≡ false → RecordFault net 3 (line_of_node net v)
+  bad_edge : (e : ℕ) → FitTo net net.nodes e → e < net.edges → edge_test net e ≡ false → RecordFault net 4 (line_of_edge net e)
 
 abbrev pub RecordFaults : Type 0
-RecordFaults = (net : Netlist) → Typed net → (q n : ℕ) → (lines_of (text_of net) ≡ fault (atLine q n)) ↔ RecordFault net q n
+RecordFaults = (net : Netlist) → Typed net → (q n : ℕ) → (lines_of (text_of net) ≡ fault (at_line q n)) ↔ RecordFault net q n
 
 -- Of a record whose lines keep their rules, 5, 6, 7 or nothing is said as they hold of the record itself.
 abbrev pub RecordJudged : Type 0
@@ -164,7 +164,7 @@ RecordJudged = (net : Netlist) → Fit net → (s : Said) (back : Netlist) → R
 -- The record itself keeps the rules 2 to 7.
 pub record Keeps (net : Netlist) : Type 0 where
   pub lines : Fit net
-  pub fan-in : FanInsFit net
+  pub fan_in : FanInsFit net
   pub no_loop : ¬ LoopIn net
   pub joined : AllInReach net
 

@@ -1,5 +1,5 @@
 -- The walk from the inputs, pass by pass. Request F-5: "a debugger that stops after a pass shows just these marks in one struct."
---   emptyLayer          no pass made, no node marked
+--   empty_layer         no pass made, no node marked
 --   WalksBy x most s layer    the walk, where the lines of a text come to x
 --   Walks t most s layer      at most `most` passes of the walk from the inputs of the text t say s and give layer
 -- It is a walk of the lines alone: 5, 6 and 7 stop no pass, so that it can be seen of a netlist that gets number 7 which nodes are marked after each.
@@ -10,12 +10,12 @@ use Rattle.netlist.specs.Answer.{Said, value}
 use Rattle.netlist.specs.Net.{zeros, graph_of}
 use Rattle.netlist.specs.Read.{Lines, fault, lines, lines_of}
 
-abbrev pub emptyLayer : Layer
-emptyLayer = record { passes = 0; lo = 0; hi = 0; queue = zeros 512; marks = zeros 512 }
+abbrev pub empty_layer : Layer
+empty_layer = record { passes = 0; lo = 0; hi = 0; queue = zeros 512; marks = zeros 512 }
 
 -- Inputs are the nodes of kind 0. Where the lines are right, it says how many nodes there are: so many marks count.
 abbrev pub WalksBy : Lines → ℕ → Said → Layer → Type 0
-WalksBy (fault x) most s layer = (s ≡ x) × (layer ≡ emptyLayer)
+WalksBy (fault x) most s layer = (s ≡ x) × (layer ≡ empty_layer)
 WalksBy (lines net) most s layer = (s ≡ value net.nodes) × LayerFrom (graph_of net) 0 most layer
 
 abbrev pub Walks : List ℕ → ℕ → Said → Layer → Type 0

@@ -3,15 +3,15 @@ ghost use Rattle.std.specs.Prelude.{◌≡◌, ◌+◌, ◌*◌, ◌≤◌, ◌<
 ghost use Rattle.frame.specs.inner.Decoded.{Digits};
 ghost use Rattle.netlist.specs.Answer.{says};
 ghost use Rattle.netlist.specs.inner.Stages.{Goes, Lined};
-ghost use Rattle.netlist.specs.Net.{emptyNet, with_head};
-ghost use Rattle.netlist.specs.Read.{lineOfNode, lineOfEdge, nothingMore, edgesFrom, nodesFrom, lines_of, Reads};
+ghost use Rattle.netlist.specs.Net.{empty_net, with_head};
+ghost use Rattle.netlist.specs.Read.{line_of_node, line_of_edge, nothing_more, edges_from, nodes_from, lines_of, Reads};
 
 use crate::judging::judge;
 use crate::{Answer, Netlist, Place, Reading};
 use graph::{EDGES, NODES};
 use rules::{edge_fits, head_fits, node_fits};
 
-// The number of the line behind the head (specs/Read, `firstLine`).
+// The number of the line behind the head (specs/Read, `first_line`).
 pub const FIRST_LINE: usize = 2;
 
 // What lines have filled: the record, the cursor past them and the number of the next line; or a refusal, and an empty record.
@@ -44,7 +44,7 @@ pub fn with_head(period: u16, derate: u8, nodes: u16, edges: u16) -> Netlist
 // A refusal at a line.
 fn fault(q: u8, line: usize) -> Filled
     requires { line < 65536 }
-    ensures { (result.answer ≡ Answer.Refused q (Place.Line line)) × (result.net ≡ emptyNet) × (result.line ≡ 0) }
+    ensures { (result.answer ≡ Answer.Refused q (Place.Line line)) × (result.net ≡ empty_net) × (result.line ≡ 0) }
 {
     Filled {
         answer: Answer::Refused(q, Place::Line(line as u16)),
@@ -71,8 +71,8 @@ fn quad(high: u16, low: u16) -> u32
 // The head line.
 fn read_head(table: &[u8], text: &[u8]) -> Filled
     requires { Digits table.now }
-    ensures goes { Goes result.answer (lines_of text.now) (nodesFrom result.net.nodes 0 result.line (drop result.at text.now) result.net) result.net }
-    ensures bounds { (result.net.nodes ≤ 512) × (result.net.edges ≤ 1024) × (result.line ≤ lineOfNode result.net 0) }
+    ensures goes { Goes result.answer (lines_of text.now) (nodes_from result.net.nodes 0 result.line (drop result.at text.now) result.net) result.net }
+    ensures bounds { (result.net.nodes ≤ 512) × (result.net.edges ≤ 1024) × (result.line ≤ line_of_node result.net 0) }
 {
     let f = frame::frame_by(table, text, 0, 1, 7);
     if !f.ok {
@@ -97,9 +97,9 @@ fn read_head(table: &[u8], text: &[u8]) -> Filled
 // The node lines from the cursor `at0`, which is at line `line0`.
 fn read_nodes(table: &[u8], text: &[u8], at0: usize, line0: usize, net0: Netlist) -> Filled
     requires digits { Digits table.now }
-    requires bounds { (net0.nodes ≤ 512) × (net0.edges ≤ 1024) × (line0 ≤ lineOfNode net0 0) }
-    ensures goes { Goes result.answer (nodesFrom net0.nodes 0 line0 (drop at0 text.now) net0) (edgesFrom result.net.edges 0 result.line (drop result.at text.now) result.net) result.net }
-    ensures bounds_left { (result.net.nodes ≤ 512) × (result.net.edges ≤ 1024) × (result.line ≤ lineOfEdge result.net 0) }
+    requires bounds { (net0.nodes ≤ 512) × (net0.edges ≤ 1024) × (line0 ≤ line_of_node net0 0) }
+    ensures goes { Goes result.answer (nodes_from net0.nodes 0 line0 (drop at0 text.now) net0) (edges_from result.net.edges 0 result.line (drop result.at text.now) result.net) result.net }
+    ensures bounds_left { (result.net.nodes ≤ 512) × (result.net.edges ≤ 1024) × (result.line ≤ line_of_edge result.net 0) }
 {
     let mut net = net0;
     let n = net.nodes as usize;
@@ -153,9 +153,9 @@ fn edge_row(b: [u8; 16]) -> EdgeRow
 // The edge lines from the cursor `at0`, which is at line `line0`.
 fn read_edges(table: &[u8], text: &[u8], at0: usize, line0: usize, net0: Netlist) -> Filled
     requires digits { Digits table.now }
-    requires bounds { (net0.nodes ≤ 512) × (net0.edges ≤ 1024) × (line0 ≤ lineOfEdge net0 0) }
-    ensures goes { Goes result.answer (edgesFrom net0.edges 0 line0 (drop at0 text.now) net0) (nothingMore (drop result.at text.now) result.line result.net) result.net }
-    ensures bounds_left { (result.net.nodes ≤ 512) × (result.net.edges ≤ 1024) × (result.line ≤ lineOfEdge result.net result.net.edges) }
+    requires bounds { (net0.nodes ≤ 512) × (net0.edges ≤ 1024) × (line0 ≤ line_of_edge net0 0) }
+    ensures goes { Goes result.answer (edges_from net0.edges 0 line0 (drop at0 text.now) net0) (nothing_more (drop result.at text.now) result.line result.net) result.net }
+    ensures bounds_left { (result.net.nodes ≤ 512) × (result.net.edges ≤ 1024) × (result.line ≤ line_of_edge result.net result.net.edges) }
 {
     let mut net = net0;
     let nodes = net.nodes;

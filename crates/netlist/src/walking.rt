@@ -1,7 +1,7 @@
 // The walk from the inputs of a text, in passes, as a debugger shows it: the netlist need not keep rules 5, 6 and 7.
 ghost use Rattle.std.specs.Prelude.{◌≡◌};
 ghost use Rattle.netlist.specs.Answer.{says};
-ghost use Rattle.netlist.specs.Walk.{emptyLayer, Walks};
+ghost use Rattle.netlist.specs.Walk.{empty_layer, Walks};
 
 use crate::lines::read_lines;
 use crate::{Answer, Walked};
@@ -9,7 +9,7 @@ use graph::{Layer, NODES};
 
 // A layer before the first pass, with no node marked.
 fn empty_layer() -> Layer
-    ensures { result ≡ emptyLayer }
+    ensures { result ≡ empty_layer }
 {
     Layer {
         passes: 0,

@@ -4,7 +4,7 @@ ghost use Rattle.std.proofs.lemmas.List.Edits.{sets};
 ghost use Rattle.frame.specs.Frame.{bytes_of};
 ghost use Rattle.netlist.specs.Answer.{says};
 ghost use Rattle.netlist.specs.Net.{plain};
-ghost use Rattle.netlist.specs.Write.{nodeLine, edgeLine, joined, text_of, textIn, Writes};
+ghost use Rattle.netlist.specs.Write.{node_line, edge_line, joined, text_of, text_in, Writes};
 
 use crate::checking::verdict;
 use crate::{Answer, Netlist, Place};
@@ -58,8 +58,8 @@ fn edge_bytes(from: u16, to: u16, count: u8, start: u32) -> [u8; 16]
 
 // The node lines from the cursor `at0`; the cursor past them.
 fn put_nodes(net: Netlist, out: &mut [u8], at0: usize) -> usize
-    requires { (net.nodes ≤ 512) × (at0 + length (joined (nodeLine net) net.nodes) ≤ length out.old) }
-    ensures { (out.new ≡ sets out.old at0 (joined (nodeLine net) net.nodes)) × (result ≡ at0 + length (joined (nodeLine net) net.nodes)) }
+    requires { (net.nodes ≤ 512) × (at0 + length (joined (node_line net) net.nodes) ≤ length out.old) }
+    ensures { (out.new ≡ sets out.old at0 (joined (node_line net) net.nodes)) × (result ≡ at0 + length (joined (node_line net) net.nodes)) }
 {
     let n = net.nodes as usize;
     let mut at = at0;
@@ -74,8 +74,8 @@ fn put_nodes(net: Netlist, out: &mut [u8], at0: usize) -> usize
 
 // The edge lines from the cursor `at0`; the cursor past them.
 fn put_edges(net: Netlist, out: &mut [u8], at0: usize) -> usize
-    requires { (net.edges ≤ 1024) × (at0 + length (joined (edgeLine net) net.edges) ≤ length out.old) }
-    ensures { (out.new ≡ sets out.old at0 (joined (edgeLine net) net.edges)) × (result ≡ at0 + length (joined (edgeLine net) net.edges)) }
+    requires { (net.edges ≤ 1024) × (at0 + length (joined (edge_line net) net.edges) ≤ length out.old) }
+    ensures { (out.new ≡ sets out.old at0 (joined (edge_line net) net.edges)) × (result ≡ at0 + length (joined (edge_line net) net.edges)) }
 {
     let m = net.edges as usize;
     let mut at = at0;
@@ -109,8 +109,8 @@ const MOST_EDGES: u16 = EDGES as u16;
 
 // The text at the front of `out`, where the record has its rows and there is room; how many bytes that took, 0 where it left `out`.
 pub fn put_text(net: Netlist, out: &mut [u8]) -> usize
-    ensures out_after { out.new ≡ sets out.old 0 (textIn net (length out.old)) }
-    ensures value { result ≡ length (textIn net (length out.old)) }
+    ensures out_after { out.new ≡ sets out.old 0 (text_in net (length out.old)) }
+    ensures value { result ≡ length (text_in net (length out.old)) }
 {
     if MOST_NODES < net.nodes {
         return 0;

@@ -1,11 +1,11 @@
 -- What `list` puts out, in its two cases, and what `listing` makes of it.
---   size, size-fits     how many bytes are written of a netlist; no more than its text has
+--   size, size_fits     how many bytes are written of a netlist; no more than its text has
 --   fitted              the length of the buffer and what it held decide nothing
 --   came                where a number is said, the text reads, and the new text stands at the front
---   lag-rows, lag-words so the lines of the lags have room, and two bytes hold each lag
---   lists-done          the new text and these lines
---   lists-refused       the line of a refusal
---   front-is, shows     what is printed of a text is what is printed of its first 32,768 bytes
+--   lag_rows, lag_words so the lines of the lags have room, and two bytes hold each lag
+--   lists_done          the new text and these lines
+--   lists_refused       the line of a refusal
+--   front_is, shows     what is printed of a text is what is printed of its first 32,768 bytes
 use Prim.Native.Nat.{ℕ, ◌+◌, ◌*◌, ◌≤◌, ◌<◌, min}
 use native.Mathlib.Omega.{arith}
 use native.Mathlib.Decide.{dec_le}
@@ -18,7 +18,7 @@ use lib.ListN.{length, take, drop, get_or, replicate, length-append, length-drop
 use lib.Seq.{sets, sets-eq, take_all, take_at, drop-append-add, drop-drop, length-take-le}
 use Rattle.theory.specs.Lag.{up, down}
 use Rattle.frame.specs.Frame.{placed}
-use Rattle.frame.proofs.Buffers.{placed-room}
+use Rattle.frame.proofs.Buffers.{placed_room}
 use Rattle.netlist.specs.declared.Netlist.{Netlist}
 use Rattle.netlist.specs.declared.Place.{Place}
 use Rattle.netlist.specs.declared.Place.TheVariants.{Whole, Line, Node, Edge}
@@ -30,28 +30,28 @@ use Rattle.netlist.specs.Order.{Given}
 use Rattle.netlist.specs.Read.{Reads}
 use Rattle.netlist.specs.Write.{joined, text_of}
 use Rattle.netlist.proofs.Fits.{clash}
-use Rattle.netlist.proofs.Order.{else-map}
-use Rattle.netlist.proofs.Rows.{length-zeros}
-use Rattle.netlist.proofs.Run.{fit-rows}
-use Rattle.netlist.proofs.Written.{length-joined}
-use Rattle.netlist.proofs.theorems.One.{one-reading}
-use Rattle.netlist.proofs.theorems.Some.{some-reading}
-use Rattle.netlist.proofs.theorems.Sound.{reads-text}
-use Rattle.simulate.proofs.Answered.{says-refused}
-use Rattle.lags.proofs.Laws.{read-sure}
-use Rattle.moves.specs.Moved.{movedNet}
+use Rattle.netlist.proofs.Order.{else_map}
+use Rattle.netlist.proofs.Rows.{length_zeros}
+use Rattle.netlist.proofs.Run.{fit_rows}
+use Rattle.netlist.proofs.Written.{length_joined}
+use Rattle.netlist.proofs.theorems.One.{one_reading}
+use Rattle.netlist.proofs.theorems.Some.{some_reading}
+use Rattle.netlist.proofs.theorems.Sound.{reads_text}
+use Rattle.simulate.proofs.Answered.{says_refused}
+use Rattle.lags.proofs.Laws.{read_sure}
+use Rattle.moves.specs.Moved.{moved_net}
 use Rattle.retime.specs.Retime.{Short, Retimes}
-use Rattle.retime.proofs.Call.{reading, unread, left-of, of_left, back-reads}
-use Rattle.retime.proofs.theorems.Moved.{written-length}
-use Rattle.retime.proofs.theorems.Demand.{lags-fit}
-use Rattle.retime.proofs.theorems.Refusals.{unread-fact, nothing-touched}
-use Rattle.printing.specs.Shown.{refusalLine, lineIn}
-use Rattle.printing.proofs.Shown.{counted, refusal-length}
+use Rattle.retime.proofs.Call.{reading, unread, left_of, of_left, back_reads}
+use Rattle.retime.proofs.theorems.Moved.{written_length}
+use Rattle.retime.proofs.theorems.Demand.{lags_fit}
+use Rattle.retime.proofs.theorems.Refusals.{unread_fact, nothing_touched}
+use Rattle.printing.specs.Shown.{refusal_line, line_in}
+use Rattle.printing.proofs.Shown.{counted, refusal_length}
 use Rattle.printing.specs.declared.Printed.{Printed}
-use Rattle.printing.specs.Listed.{lagLine, listed, Prints, PrintsWhole}
+use Rattle.printing.specs.Listed.{lag_line, listed, Prints, PrintsWhole}
 use Rattle.printing.specs.inner.Lists.{Lists}
-use Rattle.printing.proofs.Lines.{lag-length}
-use Rattle.printing.proofs.More.{more-decides-nothing}
+use Rattle.printing.proofs.Lines.{lag_length}
+use Rattle.printing.proofs.More.{more_decides_nothing}
 
 -- ── The buffer decides nothing ──────────────────────────────────────────────────────────────
 
@@ -59,8 +59,8 @@ use Rattle.printing.proofs.More.{more-decides-nothing}
 abbrev size : Netlist → ℕ
 size net = length (text_of (plain net))
 
-size-fits : {t : List ℕ} {net : Netlist} → Reads t (value 0) net → size net ≤ length t
-size-fits h = omega (arith, ap length (reads-text h))
+size_fits : {t : List ℕ} {net : Netlist} → Reads t (value 0) net → size net ≤ length t
+size_fits h = omega (arith, ap length (reads_text h))
 
 -- The same outcome in a buffer as long as the text.
 record Fitted (t : List ℕ) (lags : List ℤ) (s : Said) (mid : List ℕ) (lags' : List ℤ) : Type 0 where
@@ -69,9 +69,9 @@ record Fitted (t : List ℕ) (lags : List ℤ) (s : Said) (mid : List ℕ) (lags
   pub same : (net : Netlist) → Reads t (value 0) net → (k : ℕ) → s ≡ value k → take (size net) mid ≡ take (size net) new
 
 -- Neither buffer is too short, so the table decides whether 12 is said.
-short-in : (old out : List ℕ) (lags : List ℤ) (net : Netlist) → size net ≤ length old → (s : Said) → Given (Short old lags net) (whole 12) s → Given (Short out lags net) (whole 12) s
-short-in old out lags net room s (inl x, e) = absurd (let z : ⊥ = omega arith in z)
-short-in old out lags net room s (inr x, e) = (inr x, e)
+short_in : (old out : List ℕ) (lags : List ℤ) (net : Netlist) → size net ≤ length old → (s : Said) → Given (Short old lags net) (whole 12) s → Given (Short out lags net) (whole 12) s
+short_in old out lags net room s (inl x, e) = absurd (let z : ⊥ = omega arith in z)
+short_in old out lags net room s (inr x, e) = (inr x, e)
 
 -- Of a text that is refused both buffers are as they were. Of one that reads the new text stands at the front of both.
 fitted : {t old mid : List ℕ} {lags lags' : List ℤ} {s : Said} → length t ≤ length old → Retimes t old lags s mid lags' → Fitted t lags s mid lags'
@@ -79,8 +79,8 @@ fitted {t} {old} {mid} {lags} {lags'} {s} room o = ⊎_elim (λ (q, k, p, net, h
   where
     stops : {q k p : ℕ} {net : Netlist} → Reads t (refused q k p) net → Fitted t lags s mid lags'
     stops {q} {k} {p} {net} h =
-        let e = unread-fact t old lags s mid lags' q k p net h o in
-        let same : lags' ≡ lags = (nothing-touched t old lags s mid lags' q k p o e).1 in
+        let e = unread_fact t old lags s mid lags' q k p net h o in
+        let same : lags' ≡ lags = (nothing_touched t old lags s mid lags' q k p o e).1 in
         record {
           new = zeros (length t);
           retimes = subst₂ (λ x l. Retimes t (zeros (length t)) lags x (zeros (length t)) l) (sym e) (sym same) (unread h);
@@ -89,22 +89,22 @@ fitted {t} {old} {mid} {lags} {lags'} {s} room o = ⊎_elim (λ (q, k, p, net, h
 
     goes : (net : Netlist) → Reads t (value 0) net → Fitted t lags s mid lags'
     goes net h =
-        let x = left-of net h o in
-        let new = text_of (movedNet net x.lag x.choice) in
-        let zero_room : size net ≤ length (zeros (length t)) = omega (arith, size-fits h, length-zeros (length t)) in
+        let x = left_of net h o in
+        let new = text_of (moved_net net x.lag x.choice) in
+        let zero_room : size net ≤ length (zeros (length t)) = omega (arith, size_fits h, length_zeros (length t)) in
         let front : (xs : List ℕ) (k : ℕ) → s ≡ value k → take (size net) (holds s new xs) ≡ new =
-        λ xs k e. ap (λ a. take (size net) (holds a new xs)) e ∙ take_at new (drop (length new) xs) (size net) (written-length net x.lag x.choice) in
+        λ xs k e. ap (λ a. take (size net) (holds a new xs)) e ∙ take_at new (drop (length new) xs) (size net) (written_length net x.lag x.choice) in
         record {
           new = holds s new (zeros (length t));
           retimes = of_left net h (record {
             lag = x.lag;
             choice = x.choice;
-            answer = else-map (short-in old (zeros (length t)) lags net (omega (arith, size-fits h))) (short-in (zeros (length t)) old lags net zero_room) (λ r. r) x.answer;
+            answer = else_map (short_in old (zeros (length t)) lags net (omega (arith, size_fits h))) (short_in (zeros (length t)) old lags net zero_room) (λ r. r) x.answer;
             buffer = refl;
             table = x.table;
           });
           same = λ n h' k e.
-              let z : size n ≡ size net = ap size (one-reading t (value 0) (value 0) n net h' h).1 in
+              let z : size n ≡ size net = ap size (one_reading t (value 0) (value 0) n net h' h).1 in
               ap (λ i. take i mid) z ∙ ap (take (size net)) x.buffer ∙ front old k e ∙ sym (front (zeros (length t)) k e) ∙ ap (λ i. take i (holds s new (zeros (length t)))) (sym z);
         }
 
@@ -120,14 +120,14 @@ record Came (t old mid : List ℕ) : Type 0 where
 
 came : {t old mid : List ℕ} {before lags : List ℤ} {s : Said} {k : ℕ} → Retimes t old before s mid lags → s ≡ value k → Came t old mid
 came {t} {old} o e =
-    let new = text_of (movedNet o.net o.lag o.choice) in
-    record { net = o.net; reads = back-reads o e; new = new; long = written-length o.net o.lag o.choice; front = o.buffer ∙ ap (λ a. holds a new old) e }
+    let new = text_of (moved_net o.net o.lag o.choice) in
+    record { net = o.net; reads = back_reads o e; new = new; long = written_length o.net o.lag o.choice; front = o.buffer ∙ ap (λ a. holds a new old) e }
 
-listed-refused : (q : ℕ) (p : Place) (new : List ℕ) (lags : List ℤ) (nodes : ℕ) → listed (says (Refused q p)) new lags nodes ≡ refusalLine (says (Refused q p))
-listed-refused q Whole new lags nodes = refl
-listed-refused q (Line l) new lags nodes = refl
-listed-refused q (Node v) new lags nodes = refl
-listed-refused q (Edge e) new lags nodes = refl
+listed_refused : (q : ℕ) (p : Place) (new : List ℕ) (lags : List ℤ) (nodes : ℕ) → listed (says (Refused q p)) new lags nodes ≡ refusal_line (says (Refused q p))
+listed_refused q Whole new lags nodes = refl
+listed_refused q (Line l) new lags nodes = refl
+listed_refused q (Node v) new lags nodes = refl
+listed_refused q (Edge e) new lags nodes = refl
 
 module _ (t old mid : List ℕ) (lags : List ℤ) (a : Answer) (w : Retimes t old (replicate 512 (pos 0)) (says a) mid lags) (room : length t + 5632 ≤ length old) where
   fit : Fitted t (replicate 512 (pos 0)) (says a) mid lags
@@ -138,30 +138,30 @@ module _ (t old mid : List ℕ) (lags : List ℤ) (a : Answer) (w : Retimes t ol
     here = came w (ap says e)
 
     same : (says b ≡ value 0) × (net ≡ here.net)
-    same = one-reading t (says b) (value 0) net here.net r here.reads
+    same = one_reading t (says b) (value 0) net here.net r here.reads
 
     reads : Reads t (value 0) net
     reads = subst (Reads t (value 0)) (sym same.1) here.reads
 
     few : net.nodes ≤ 512
-    few = (fit-rows net (read-sure t net reads).fit).0
+    few = (fit_rows net (read_sure t net reads).fit).0
 
-    mid-length : length mid ≡ length old
-    mid-length =
-        ap length here.front ∙ length-append here.new (drop (length here.new) old) ∙ omega (arith, here.long, size-fits here.reads, length-drop (length here.new) old)
+    mid_length : length mid ≡ length old
+    mid_length =
+        ap length here.front ∙ length-append here.new (drop (length here.new) old) ∙ omega (arith, here.long, size_fits here.reads, length-drop (length here.new) old)
 
-    pub lag-rows : (net.nodes ≤ 512) × (length (text_of (plain net)) + length (joined (lagLine lags) net.nodes) ≤ length mid)
-    lag-rows = (few, omega (arith, few, mid-length, size-fits reads, length-joined (lagLine lags) 11 (lag-length lags) net.nodes))
+    pub lag_rows : (net.nodes ≤ 512) × (length (text_of (plain net)) + length (joined (lag_line lags) net.nodes) ≤ length mid)
+    lag_rows = (few, omega (arith, few, mid_length, size_fits reads, length_joined (lag_line lags) 11 (lag_length lags) net.nodes))
 
-    pub lag-words : (v : ℕ) → v < net.nodes → (up (get_or lags v (pos 0)) < 32768) × (down (get_or lags v (pos 0)) ≤ 32768)
-    lag-words v h = let f = lags-fit t old (replicate 512 (pos 0)) (says a) mid lags net reads w (k, ap says e) v h in (omega (arith, f.0), omega (arith, f.1))
+    pub lag_words : (v : ℕ) → v < net.nodes → (up (get_or lags v (pos 0)) < 32768) × (down (get_or lags v (pos 0)) ≤ 32768)
+    lag_words v h = let f = lags_fit t old (replicate 512 (pos 0)) (says a) mid lags net reads w (k, ap says e) v h in (omega (arith, f.0), omega (arith, f.1))
 
     lines : List ℕ
-    lines = joined (lagLine lags) net.nodes
+    lines = joined (lag_line lags) net.nodes
 
-    lines-length : length lines ≡ 11 * net.nodes
+    lines_length : length lines ≡ 11 * net.nodes
     unfolding lines
-    lines-length = length-joined (lagLine lags) 11 (lag-length lags) net.nodes
+    lines_length = length_joined (lag_line lags) 11 (lag_length lags) net.nodes
 
     -- What stands past the new text is what stood there.
     long : length here.new ≡ size net
@@ -172,12 +172,12 @@ module _ (t old mid : List ℕ) (lags : List ℤ) (a : Answer) (w : Retimes t ol
         ap₂ (λ l xs. drop (l + n) xs) (sym long) here.front ∙ drop-append-add here.new (drop (length here.new) old) n
         ∙ drop-drop n (length here.new) old ∙ ap (λ l. drop (l + n) old) long
 
-    pub lists-done : (new : List ℕ) (at n : ℕ) → at ≡ length (text_of (plain net)) → new ≡ sets mid at (joined (lagLine lags) net.nodes)
-        → n ≡ at + length (joined (lagLine lags) net.nodes) → Lists t old n new
+    pub lists_done : (new : List ℕ) (at n : ℕ) → at ≡ length (text_of (plain net)) → new ≡ sets mid at (joined (lag_line lags) net.nodes)
+        → n ≡ at + length (joined (lag_line lags) net.nodes) → Lists t old n new
     unfolding lines
-    lists-done new at n z p q =
+    lists_done new at n z p q =
         let front = take (size net) mid in
-        let front_length : length front ≡ size net = length-take-le (size net) mid (omega (arith, mid-length, size-fits reads)) in
+        let front_length : length front ≡ size net = length-take-le (size net) mid (omega (arith, mid_length, size_fits reads)) in
         let long : length (front ++ lines) ≡ size net + length lines = length-append front lines ∙ ap (λ i. i + length lines) front_length in
         record {
           printed = front ++ lines;
@@ -192,18 +192,18 @@ module _ (t old mid : List ℕ) (lags : List ℤ) (a : Answer) (w : Retimes t ol
             prints = ap (λ x. x ++ lines) (fit.same net reads k (ap says e)) ∙ ap (λ s. listed s (take (size net) fit.new) lags net.nodes) (sym (ap says e));
           };
           count = q ∙ ap (λ i. i + length lines) z ∙ sym long;
-          bytes = p ∙ ap (λ i. sets mid i lines) z ∙ sets-eq lines mid (size net) (omega (arith, lines-length, few, mid-length, size-fits reads)) ∙ ap (λ xs. front ++ lines ++ xs) (rest (length lines) ∙ ap (λ i. drop i old) (sym long));
-          room = omega (arith, long, lines-length, few, size-fits reads);
+          bytes = p ∙ ap (λ i. sets mid i lines) z ∙ sets-eq lines mid (size net) (omega (arith, lines_length, few, mid_length, size_fits reads)) ∙ ap (λ xs. front ++ lines ++ xs) (rest (length lines) ∙ ap (λ i. drop i old) (sym long));
+          room = omega (arith, long, lines_length, few, size_fits reads);
         }
 
-  pub lists-refused : {q : ℕ} {p : Place} → a ≡ Refused q p → (new : List ℕ) (n : ℕ) → new ≡ placed mid 0 (refusalLine (says (Refused q p))) → n ≡ lineIn (refusalLine (says (Refused q p))) mid
+  pub lists_refused : {q : ℕ} {p : Place} → a ≡ Refused q p → (new : List ℕ) (n : ℕ) → new ≡ placed mid 0 (refusal_line (says (Refused q p))) → n ≡ line_in (refusal_line (says (Refused q p))) mid
       → Lists t old n new
-  lists-refused {q} {p} e new n f g =
-      let line = refusalLine (says (Refused q p)) in
-      let (k, l, z) = says-refused a e in
-      let stays : mid ≡ old = (nothing-touched t old (replicate 512 (pos 0)) (says a) mid lags q k l w z).0 in
-      let long : length line ≡ 11 = refusal-length q p in
-      let any = some-reading t in
+  lists_refused {q} {p} e new n f g =
+      let line = refusal_line (says (Refused q p)) in
+      let (k, l, z) = says_refused a e in
+      let stays : mid ≡ old = (nothing_touched t old (replicate 512 (pos 0)) (says a) mid lags q k l w z).0 in
+      let long : length line ≡ 11 = refusal_length q p in
+      let any = some_reading t in
       record {
         printed = line;
         prints = record {
@@ -214,18 +214,18 @@ module _ (t old mid : List ℕ) (lags : List ℤ) (a : Answer) (w : Retimes t ol
           read = any.0;
           net = any.1;
           reads = any.2;
-          prints = sym (ap (λ x. listed (says x) (take (size any.1) fit.new) lags any.1.nodes) e ∙ listed-refused q p (take (size any.1) fit.new) lags any.1.nodes);
+          prints = sym (ap (λ x. listed (says x) (take (size any.1) fit.new) lags any.1.nodes) e ∙ listed_refused q p (take (size any.1) fit.new) lags any.1.nodes);
         };
         count = g ∙ rw (le-leb (length line) (length mid) (omega (arith, long, ap length stays)));
-        bytes = f ∙ placed-room mid 0 line (omega (arith, long, ap length stays)) ∙ sets-eq line mid 0 (omega (arith, long, ap length stays))
+        bytes = f ∙ placed_room mid 0 line (omega (arith, long, ap length stays)) ∙ sets-eq line mid 0 (omega (arith, long, ap length stays))
             ∙ ap₂ (λ i xs. line ++ drop i xs) (let y : 0 + length line ≡ length line = omega arith in y) stays;
         room = omega (arith, long);
       }
 
 -- ── The front of a text ─────────────────────────────────────────────────────────────────────
 
-pub front-is : (t : List ℕ) (n : ℕ) → n ≡ min 32768 (length t) → take n t ≡ take 32768 t
-front-is t n e = go (dec_le (length t) 32768)
+pub front_is : (t : List ℕ) (n : ℕ) → n ≡ min 32768 (length t) → take n t ≡ take 32768 t
+front_is t n e = go (dec_le (length t) 32768)
   where
     go : Dec (length t ≤ 32768) → take n t ≡ take 32768 t
     go (yes h) = take_all n t (omega arith) ∙ sym (take_all 32768 t h)
@@ -235,7 +235,7 @@ pub shows : (t old front : List ℕ) (r : Printed) → old ≡ zeros 38400 → f
 shows t old front r o f x =
     record {
       printed = x.printed;
-      prints = (more-decides-nothing t 32768 (omega arith) x.printed).1 (subst (λ y. Prints y x.printed) f x.prints);
+      prints = (more_decides_nothing t 32768 (omega arith) x.printed).1 (subst (λ y. Prints y x.printed) f x.prints);
       count = x.count;
       bytes = x.bytes ∙ ap (λ y. x.printed ++ drop (length x.printed) y) o;
       counts = counted r.len r.bytes (omega (arith, x.count, ap length x.bytes, length-append x.printed (drop (length x.printed) old)));

@@ -10,9 +10,9 @@ pub mod Quoted
 pub mod Shared
 -- Lags as numbers of two bytes, and their lines.
 pub mod Lines
--- Long texts: more-decides-nothing.
+-- Long texts: more_decides_nothing.
 pub mod More
 -- What `list` puts out, by cases.
 pub mod Cases
--- The other theorems of specs/Theorems: some-print, one-print, pages-hold.
+-- The other theorems of specs/Theorems: some_print, one_print, pages_hold.
 pub mod Theorems

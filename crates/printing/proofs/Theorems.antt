@@ -1,6 +1,6 @@
 -- The theorems of specs/Theorems.
---   some-print, one-print
---   page?, pages-hold   each card is one test that antt computes, beside its row of retime's table
+--   some_print, one_print
+--   page?, pages_hold   each card is one test that antt computes, beside its row of retime's table
 use Prim.Native.Nat.{ℕ}
 use Prim.Native.String.{String}
 use native.Mathlib.Omega.{arith}
@@ -10,38 +10,38 @@ use mathlib.Core.List.{List, ◌++◌}
 use lib.Dec.{T}
 use lib.IntN.{ℤ, pos}
 use lib.ListN.{length, get_or, take, drop, replicate, get_or-map}
-use Rattle.theory.proofs.cards.Tests.{all-elim}
-use Rattle.frame.specs.Frame.{charOf, hexOf, line_of, bytes_of}
+use Rattle.theory.proofs.cards.Tests.{all_elim}
+use Rattle.frame.specs.Frame.{char_of, hex_of, line_of, bytes_of}
 use Rattle.netlist.specs.declared.Netlist.{Netlist}
 use Rattle.netlist.specs.Answer.{Said, value, refused}
 use Rattle.netlist.specs.Net.{zeros, plain}
 use Rattle.netlist.specs.Read.{Reads}
 use Rattle.netlist.specs.Write.{joined, text_of}
-use Rattle.netlist.proofs.Rows.{length-zeros}
-use Rattle.netlist.proofs.Run.{fit-rows}
-use Rattle.netlist.proofs.theorems.One.{one-reading}
-use Rattle.netlist.proofs.theorems.Some.{some-reading}
-use Rattle.netlist.proofs.theorems.Sound.{reads-text}
-use Rattle.lags.proofs.Laws.{read-sure}
+use Rattle.netlist.proofs.Rows.{length_zeros}
+use Rattle.netlist.proofs.Run.{fit_rows}
+use Rattle.netlist.proofs.theorems.One.{one_reading}
+use Rattle.netlist.proofs.theorems.Some.{some_reading}
+use Rattle.netlist.proofs.theorems.Sound.{reads_text}
+use Rattle.lags.proofs.Laws.{read_sure}
 use Rattle.retime.specs.Retime.{Room}
 use Rattle.retime.specs.Card.{bytes, printed, Result, back, refuses, runs, ClaimOf, Claim, A, cards}
-use Rattle.retime.proofs.cards.Claims.{alike, alike-yes}
-use Rattle.retime.proofs.theorems.Cards.{cards-hold}
-use Rattle.retime.proofs.theorems.Outcome.{some-outcome, one-outcome}
-use Rattle.printing.specs.Shown.{refusalLine}
+use Rattle.retime.proofs.cards.Claims.{alike, alike_yes}
+use Rattle.retime.proofs.theorems.Cards.{cards_hold}
+use Rattle.retime.proofs.theorems.Outcome.{some_outcome, one_outcome}
+use Rattle.printing.specs.Shown.{refusal_line}
 use Rattle.printing.specs.Listed.{twos, listed, Prints}
 use Rattle.printing.specs.Theorems.{SomePrint, OnePrint, Page, PageOf, first, pages, PagesHold}
 
-pub some-print : SomePrint
-some-print t =
-    let (s, new, lags, w) = some-outcome t (zeros (length t)) (replicate 512 (pos 0)) in
-    let (read, net, r) = some-reading t in
+pub some_print : SomePrint
+some_print t =
+    let (s, new, lags, w) = some_outcome t (zeros (length t)) (replicate 512 (pos 0)) in
+    let (read, net, r) = some_reading t in
     (listed s (take (length (text_of (plain net))) new) lags net.nodes, record { said = s; new = new; lags = lags; retimes = w; read = read; net = net; reads = r; prints = refl })
 
-pub one-print : OnePrint
-one-print t p q x y =
-    let o = one-outcome t (zeros (length t)) (replicate 512 (pos 0)) x.said y.said x.new y.new x.lags y.lags x.retimes y.retimes in
-    let n = (one-reading t x.read y.read x.net y.net x.reads y.reads).1 in
+pub one_print : OnePrint
+one_print t p q x y =
+    let o = one_outcome t (zeros (length t)) (replicate 512 (pos 0)) x.said y.said x.new y.new x.lags y.lags x.retimes y.retimes in
+    let n = (one_reading t x.read y.read x.net y.net x.reads y.reads).1 in
     let printed : Said → List ℕ → List ℤ → Netlist → List ℕ = λ s new lags net. listed s (take (length (text_of (plain net))) new) lags net.nodes in
     x.prints ∙ ap (λ s. printed s x.new x.lags x.net) o.0 ∙ ap (λ z. printed y.said z x.lags x.net) o.1
     ∙ ap (λ z. printed y.said y.new z x.net) o.2 ∙ ap (printed y.said y.new y.lags) n ∙ sym y.prints
@@ -57,18 +57,18 @@ module _ (t : List ℕ) where
   table r = r ++ drop (length r) (replicate 512 (pos 0))
 
   room : (net : Netlist) → Reads t (value 0) net → Room (zeros (length t)) (replicate 512 (pos 0)) net
-  room net h = record { text = omega (arith, length-zeros (length t), ap length (reads-text h)); table = (fit-rows net (read-sure t net h).fit).0 }
+  room net h = record { text = omega (arith, length_zeros (length t), ap length (reads_text h)); table = (fit_rows net (read_sure t net h).fit).0 }
 
   unfoldable page? : Result → List String → Bool
   page? (back new r chosen) ends = alike (listed (value chosen) (take (length t) (left new)) (table r) (length r)) (new ++ printed ends)
   page? (refuses (value k)) ends = false
-  page? (refuses (refused q k p)) ends = alike (refusalLine (refused q k p)) (printed ends)
+  page? (refuses (refused q k p)) ends = alike (refusal_line (refused q k p)) (printed ends)
   page? (runs vectors outputs) ends = true
 
   page : (o : Result) (ends : List String) → T (page? o ends) → ClaimOf t o → PageOf t o ends
   unfolding page? left table
   page (back new r chosen) ends x (net, h, l, claim) =
-      subst (Prints t) (alike-yes (listed (value chosen) (take (length t) (left new)) (table r) (length r)) (new ++ printed ends) x) (record {
+      subst (Prints t) (alike_yes (listed (value chosen) (take (length t) (left new)) (table r) (length r)) (new ++ printed ends) x) (record {
         said = value chosen;
         new = left new;
         lags = table r;
@@ -76,11 +76,11 @@ module _ (t : List ℕ) where
         read = value 0;
         net = net;
         reads = h;
-        prints = ap₂ (λ n m. listed (value chosen) (take n (left new)) (table r) m) (ap length (reads-text h)) l;
+        prints = ap₂ (λ n m. listed (value chosen) (take n (left new)) (table r) m) (ap length (reads_text h)) l;
       })
   page (refuses (value k)) ends x claim = absurd x
   page (refuses (refused q k p)) ends x (net, h, claim) =
-      subst (Prints t) (alike-yes (refusalLine (refused q k p)) (printed ends) x) (record {
+      subst (Prints t) (alike_yes (refusal_line (refused q k p)) (printed ends) x) (record {
         said = refused q k p;
         new = zeros (length t);
         lags = replicate 512 (pos 0);
@@ -96,11 +96,11 @@ abbrev passes : Page → Bool
 passes p = page? p.card.text p.card.result p.ends
 
 -- The pages' cards are retime's, in order.
-card-of : (k : ℕ) → (get_or pages k first).card ≡ get_or cards k A
-card-of k = sym (get_or-map (λ p. p.card) pages k first)
+card_of : (k : ℕ) → (get_or pages k first).card ≡ get_or cards k A
+card_of k = sym (get_or-map (λ p. p.card) pages k first)
 
-pub pages-hold : PagesHold
-unfolding page? left table zeros bytes printed joined charOf hexOf line_of bytes_of twos
-pages-hold k h =
+pub pages_hold : PagesHold
+unfolding page? left table zeros bytes printed joined char_of hex_of line_of bytes_of twos
+pages_hold k h =
     let p = get_or pages k first in
-    page p.card.text p.card.result p.ends (all-elim (length pages) (λ j. passes (get_or pages j first)) tt k h) (subst Claim (sym (card-of k)) (cards-hold k h))
+    page p.card.text p.card.result p.ends (all_elim (length pages) (λ j. passes (get_or pages j first)) tt k h) (subst Claim (sym (card_of k)) (cards_hold k h))

@@ -2,8 +2,8 @@
 ghost use Rattle.std.specs.Prelude.{◌≡◌, [], ◌∷◌, ◌++◌, take};
 ghost use Rattle.io.specs.Counts.{IsPrefixLen};
 ghost use Rattle.frame.specs.Frame.{bytes_of, placed};
-ghost use Rattle.printing.specs.Shown.{lineIn};
-ghost use Rattle.printing.specs.Quoted.{quoteLine, PrintsQuote};
+ghost use Rattle.printing.specs.Shown.{line_in};
+ghost use Rattle.printing.specs.Quoted.{quote_line, PrintsQuote};
 
 use crate::refusals::put_refusal;
 use netlist::Answer;
@@ -33,8 +33,8 @@ fn quote_bytes(period: usize, registers: u32, largest: u32, number: u32) -> [u8;
 
 // The line of a quote at the front of `out`, where there is room for it; how many bytes that took.
 fn put_figures(period: usize, registers: u32, largest: u32, number: u32, out: &mut [u8]) -> usize
-    ensures out_after { out.new ≡ placed out.old 0 (quoteLine period registers largest number) }
-    ensures value { result ≡ lineIn (quoteLine period registers largest number) out.old }
+    ensures out_after { out.new ≡ placed out.old 0 (quote_line period registers largest number) }
+    ensures value { result ≡ line_in (quote_line period registers largest number) out.old }
 {
     let bytes = quote_bytes(period, registers, largest, number);
     frame::put_line(out, 0, bytes, 15);

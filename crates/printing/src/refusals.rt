@@ -4,14 +4,14 @@ ghost use Rattle.io.specs.Counts.{IsPrefixLen};
 ghost use Rattle.frame.specs.Frame.{placed};
 ghost use Rattle.netlist.specs.Answer.{says};
 ghost use Rattle.netlist.specs.declared.Answer.TheVariants.{Refused};
-ghost use Rattle.printing.specs.Shown.{refusalLine, lineIn};
-ghost use Rattle.printing.specs.inner.Places.{placeKind, placeNumber};
+ghost use Rattle.printing.specs.Shown.{refusal_line, line_in};
+ghost use Rattle.printing.specs.inner.Places.{place_kind, place_number};
 
 use netlist::Place;
 
 // "place kind (1: 00 whole, 01 line, 02 node, 03 edge)"
 fn place_kind(p: Place) -> u8
-    ensures { result ≡ placeKind p }
+    ensures { result ≡ place_kind p }
 {
     match p {
         Place::Whole => 0,
@@ -23,7 +23,7 @@ fn place_kind(p: Place) -> u8
 
 // "place (2, 0 for whole)"
 fn place_number(p: Place) -> u16
-    ensures { result ≡ placeNumber p }
+    ensures { result ≡ place_number p }
 {
     match p {
         Place::Whole => 0,
@@ -35,8 +35,8 @@ fn place_number(p: Place) -> u16
 
 // The line of a refusal at the front of `out`, where there is room for it; how many bytes that took.
 pub fn put_refusal(q: u8, p: Place, out: &mut [u8]) -> usize
-    ensures out_after { out.new ≡ placed out.old 0 (refusalLine (says (Refused q p))) }
-    ensures value { result ≡ lineIn (refusalLine (says (Refused q p))) out.old }
+    ensures out_after { out.new ≡ placed out.old 0 (refusal_line (says (Refused q p))) }
+    ensures value { result ≡ line_in (refusal_line (says (Refused q p))) out.old }
     ensures prefix_len { IsPrefixLen result out.new }
 {
     let place = place_number(p);

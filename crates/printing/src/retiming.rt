@@ -5,7 +5,7 @@ ghost use Rattle.theory.specs.Lag.{up, down};
 ghost use Rattle.frame.specs.Frame.{bytes_of};
 ghost use Rattle.netlist.specs.Net.{zeros};
 ghost use Rattle.netlist.specs.Write.{joined};
-ghost use Rattle.printing.specs.Listed.{twos, lagLine, PrintsWhole};
+ghost use Rattle.printing.specs.Listed.{twos, lag_line, PrintsWhole};
 ghost use Rattle.printing.specs.inner.Lists.{Lists};
 
 use crate::refusals::put_refusal;
@@ -44,10 +44,10 @@ fn lag_bytes(node: u16, lag: u16) -> [u8; 16]
 
 // The lines of the lags, from the cursor `at0`; the cursor past them.
 fn put_lag_lines(lags: &[i32], nodes: usize, out: &mut [u8], at0: usize) -> usize
-    requires nodes_bound { (nodes ≤ 512) × (nodes ≤ length lags.now) × (at0 + length (joined (lagLine lags.now) nodes) ≤ length out.old) }
+    requires nodes_bound { (nodes ≤ 512) × (nodes ≤ length lags.now) × (at0 + length (joined (lag_line lags.now) nodes) ≤ length out.old) }
     requires by_index { (v : ℕ) → v < nodes → (up (get_or lags.now v (pos 0)) < 32768) × (down (get_or lags.now v (pos 0)) ≤ 32768) }
-    ensures out_after { out.new ≡ sets out.old at0 (joined (lagLine lags.now) nodes) }
-    ensures value { result ≡ at0 + length (joined (lagLine lags.now) nodes) }
+    ensures out_after { out.new ≡ sets out.old at0 (joined (lag_line lags.now) nodes) }
+    ensures value { result ≡ at0 + length (joined (lag_line lags.now) nodes) }
 {
     let mut at = at0;
     let mut v = 0;

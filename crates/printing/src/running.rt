@@ -3,15 +3,15 @@ ghost use Rattle.std.specs.Prelude.{◌≡◌, ◌≤◌, ◌<◌, length, take}
 ghost use Rattle.std.proofs.lemmas.List.Edits.{sets};
 ghost use Rattle.io.specs.Counts.{IsPrefixLen};
 ghost use Rattle.frame.specs.Frame.{placed};
-ghost use Rattle.printing.specs.Shown.{lineIn};
-ghost use Rattle.printing.specs.Printed.{bitDigit, digitLine, PrintsRun};
+ghost use Rattle.printing.specs.Shown.{line_in};
+ghost use Rattle.printing.specs.Printed.{bit_digit, digit_line, PrintsRun};
 
 use crate::refusals::put_refusal;
 use netlist::Answer;
 
 // The digit of a bit.
 fn digit(bit: u8) -> u8
-    ensures { result ≡ bitDigit bit }
+    ensures { result ≡ bit_digit bit }
 {
     if bit == 0 { 48 } else { 49 }
 }
@@ -19,7 +19,7 @@ fn digit(bit: u8) -> u8
 // The digits of the first `n` of `bits` and a line feed, at the front of `out`.
 fn put_digits(bits: &[u8], n: usize, out: &mut [u8])
     requires { (n ≤ length bits.now) × (n < length out.old) }
-    ensures { out.new ≡ sets out.old 0 (digitLine (take n bits.now)) }
+    ensures { out.new ≡ sets out.old 0 (digit_line (take n bits.now)) }
 {
     let mut i = 0;
     while i < n {
@@ -31,8 +31,8 @@ fn put_digits(bits: &[u8], n: usize, out: &mut [u8])
 
 // The digits of the first `n` of `bits`, or of all where there are fewer, and a line feed, at the front of `out`, where there is room for it; how many bytes that took.
 pub fn put_bits(bits: &[u8], n: usize, out: &mut [u8]) -> usize
-    ensures out_after { out.new ≡ placed out.old 0 (digitLine (take n bits.now)) }
-    ensures value { result ≡ lineIn (digitLine (take n bits.now)) out.old }
+    ensures out_after { out.new ≡ placed out.old 0 (digit_line (take n bits.now)) }
+    ensures value { result ≡ line_in (digit_line (take n bits.now)) out.old }
     ensures prefix_len { IsPrefixLen result out.new }
 {
     let some = if n < bits.len() { n } else { bits.len() };

@@ -4,8 +4,8 @@ ghost use Rattle.std.proofs.lemmas.List.Edits.{sets};
 ghost use Rattle.io.specs.Counts.{IsPrefixLen};
 ghost use Rattle.frame.specs.Frame.{bytes_of, placed};
 ghost use Rattle.netlist.specs.Write.{joined};
-ghost use Rattle.printing.specs.Shown.{lineIn};
-ghost use Rattle.printing.specs.Shared.{railLine, railLines, PrintsRails};
+ghost use Rattle.printing.specs.Shown.{line_in};
+ghost use Rattle.printing.specs.Shared.{rail_line, rail_lines, PrintsRails};
 
 use crate::refusals::put_refusal;
 use netlist::Answer;
@@ -41,7 +41,7 @@ fn rail_bytes(node: u16, rails: u32) -> [u8; 16]
 // The lines of the nodes' rails, behind that of the total.
 fn put_nodes(table: &[u32], nodes: usize, out: &mut [u8])
     requires { (nodes ≤ 512) × (nodes ≤ length table.now) × (11 + 15 * nodes ≤ length out.old) }
-    ensures { out.new ≡ sets out.old 11 (joined (railLine table.now) nodes) }
+    ensures { out.new ≡ sets out.old 11 (joined (rail_line table.now) nodes) }
 {
     let mut v = 0;
     while v < nodes {
@@ -54,8 +54,8 @@ fn put_nodes(table: &[u32], nodes: usize, out: &mut [u8])
 // The line of the total and those of the nodes' rails at the front of `out`, where there is room for all; how many bytes that took.
 fn put_counted(total: usize, table: &[u32], nodes: usize, out: &mut [u8]) -> usize
     requires { (nodes ≤ 512) × (nodes ≤ length table.now) }
-    ensures out_after { out.new ≡ placed out.old 0 (railLines total table.now nodes) }
-    ensures value { result ≡ lineIn (railLines total table.now nodes) out.old }
+    ensures out_after { out.new ≡ placed out.old 0 (rail_lines total table.now nodes) }
+    ensures value { result ≡ line_in (rail_lines total table.now nodes) out.old }
 {
     let len = 11 + 15 * nodes;
     if out.len() < len {

@@ -1,9 +1,9 @@
 -- The search for the smallest period, by halving.
---   tight-none, tight-found    what is promised in the two cases
+--   tight_none, tight_found    what is promised in the two cases
 --   Halving             no period up to low is met, and the labels are those of the least retiming at high
---   halving-start       it begins where 65,535 is met
---   halving-met, halving-missed    a period between them takes the place of one
---   halving-end         where none is between them, high is the smallest that is met
+--   halving_start       it begins where 65,535 is met
+--   halving_met, halving_missed    a period between them takes the place of one
+--   halving_end         where none is between them, high is the smallest that is met
 use Prim.Native.Nat.{ℕ, ◌+◌, ◌<◌, ◌≤◌}
 use native.Mathlib.Omega.{arith}
 use mathlib.Core.Path.{◌≡◌}
@@ -14,50 +14,50 @@ use Rattle.graph.specs.Columns.{at}
 use Rattle.netlist.specs.declared.Netlist.{Netlist}
 use Rattle.netlist.specs.Circuit.{LeastIn, NoneMeetsIn}
 use Rattle.netlist.proofs.Fits.{clash}
-use Rattle.netlist.proofs.Run.{fit-rows}
+use Rattle.netlist.proofs.Run.{fit_rows}
 use Rattle.lags.specs.declared.Labels.{Labels}
 use Rattle.lags.specs.inner.Lags.{Sure, Leasts}
-use Rattle.moves.specs.inner.Labels.{lagsOf}
+use Rattle.moves.specs.inner.Labels.{lags_of}
 use Rattle.quote.specs.inner.Quoted.{Tightest, Tightens}
-use Rattle.quote.proofs.theorems.Period.{longer-forbids-less}
+use Rattle.quote.proofs.theorems.Period.{longer_forbids_less}
 
 pub record Halving (net : Netlist) (low high : ℕ) (lab : List ℕ) : Type 0 where
   pub apart : low < high
   pub period : high ≤ 65535
   pub missed : (q : ℕ) → 1 ≤ q → q ≤ low → NoneMeetsIn net q
-  pub met : LeastIn net high (lagsOf lab)
+  pub met : LeastIn net high (lags_of lab)
   pub small : (v : ℕ) → v < net.nodes → at lab v < 32768
   pub rows : length lab ≡ 512
 
-pub tight-none : {net : Netlist} {p : ℕ} {lab : List ℕ} → NoneMeetsIn net 65535 → Tightens net false p lab
-tight-none n = record { tightest = λ z. clash (cc); none = λ _. n }
+pub tight_none : {net : Netlist} {p : ℕ} {lab : List ℕ} → NoneMeetsIn net 65535 → Tightens net false p lab
+tight_none n = record { tightest = λ z. clash (cc); none = λ _. n }
 
-pub tight-found : {net : Netlist} {p : ℕ} {lab : List ℕ} → Tightest net p lab → Tightens net true p lab
-tight-found t = record { tightest = λ _. t; none = λ z. clash (cc) }
+pub tight_found : {net : Netlist} {p : ℕ} {lab : List ℕ} → Tightest net p lab → Tightens net true p lab
+tight_found t = record { tightest = λ _. t; none = λ z. clash (cc) }
 
 module _ (net : Netlist) where
-  pub halving-start : (r : Labels) → Leasts net 65535 r → r.found ≡ true → length r.lab ≡ 512 → Halving net 0 65535 r.lab
-  halving-start r l f rows =
+  pub halving_start : (r : Labels) → Leasts net 65535 r → r.found ≡ true → length r.lab ≡ 512 → Halving net 0 65535 r.lab
+  halving_start r l f rows =
       record { apart = omega arith; period = omega arith; missed = λ q a b. absurd (let z : ⊥ = omega arith in z); met = l.least f; small = l.small; rows = rows }
 
   module _ {low high : ℕ} {lab : List ℕ} (h : Halving net low high lab) where
     module _ (middle : ℕ) (above : low < middle) (below : middle < high) (r : Labels) (l : Leasts net middle r) where
-      pub halving-met : r.found ≡ true → length r.lab ≡ 512 → Halving net low middle r.lab
-      halving-met f rows = record { apart = above; period = omega (arith, h.period); missed = h.missed; met = l.least f; small = l.small; rows = rows }
+      pub halving_met : r.found ≡ true → length r.lab ≡ 512 → Halving net low middle r.lab
+      halving_met f rows = record { apart = above; period = omega (arith, h.period); missed = h.missed; met = l.least f; small = l.small; rows = rows }
 
-      pub halving-missed : r.found ≡ false → Halving net middle high lab
-      halving-missed f = record {
+      pub halving_missed : r.found ≡ false → Halving net middle high lab
+      halving_missed f = record {
         apart = below;
         period = h.period;
-        missed = λ q a b. longer-forbids-less net q middle b (l.none f);
+        missed = λ q a b. longer_forbids_less net q middle b (l.none f);
         met = h.met;
         small = h.small;
         rows = h.rows;
       }
 
-    pub halving-end : ¬ (low + 1 < high) → Sure net → Tightest net high lab
-    halving-end e sure = record {
+    pub halving_end : ¬ (low + 1 < high) → Sure net → Tightest net high lab
+    halving_end e sure = record {
       smallest = record { low = omega (arith, h.apart); high = h.period; smaller = λ q a b. h.missed q a (omega arith) };
       least = h.met;
-      labelled = record { fit = sure.fit; rows = omega (arith, (fit-rows net sure.fit).0, h.rows); small = h.small; legal = h.met.feasible.legal };
+      labelled = record { fit = sure.fit; rows = omega (arith, (fit_rows net sure.fit).0, h.rows); small = h.small; legal = h.met.feasible.legal };
     }

@@ -1,9 +1,9 @@
 -- The largest of some numbers.
---   most-none, most-more    of none, and of one more
---   most-same           it depends on the numbers
---   most-holds          none of them is above it
---   most-within         it is not above what none of them is above
---   most-first          where it is above k, some number is, and so there is a first one
+--   most_none, most_more    of none, and of one more
+--   most_same           it depends on the numbers
+--   most_holds          none of them is above it
+--   most_within         it is not above what none of them is above
+--   most_first          where it is above k, some number is, and so there is a first one
 use Prim.Native.Nat.{ℕ, zero, suc, ◌+◌, max, ◌<◌, ◌≤◌}
 use native.Mathlib.Nat.{eq-or-lt_of_le}
 use native.Mathlib.Numerals.{add-one}
@@ -14,36 +14,36 @@ use mathlib.Core.Logic.{⊎_elim}
 use Rattle.theory.proofs.numbers.Find.{first}
 use Rattle.quote.specs.Quote.{most}
 
-pub most-none : (f : ℕ → ℕ) → 0 ≡ most f 0
+pub most_none : (f : ℕ → ℕ) → 0 ≡ most f 0
 unfolding most
-most-none f = refl
+most_none f = refl
 
-pub most-more : (f : ℕ → ℕ) (n : ℕ) → most f (n + 1) ≡ max (most f n) (f n)
+pub most_more : (f : ℕ → ℕ) (n : ℕ) → most f (n + 1) ≡ max (most f n) (f n)
 unfolding most
-most-more f n = rw add-one
+most_more f n = rw add-one
 
-pub most-same : (f g : ℕ → ℕ) (n : ℕ) → ((i : ℕ) → i < n → f i ≡ g i) → most f n ≡ most g n
+pub most_same : (f g : ℕ → ℕ) (n : ℕ) → ((i : ℕ) → i < n → f i ≡ g i) → most f n ≡ most g n
 unfolding most
-most-same f g zero h = refl
-most-same f g (suc n) h = ap₂ max (most-same f g n (λ i l. h i (omega arith))) (h n (omega arith))
+most_same f g zero h = refl
+most_same f g (suc n) h = ap₂ max (most_same f g n (λ i l. h i (omega arith))) (h n (omega arith))
 
-pub most-holds : (f : ℕ → ℕ) (n i : ℕ) → i < n → f i ≤ most f n
+pub most_holds : (f : ℕ → ℕ) (n i : ℕ) → i < n → f i ≤ most f n
 unfolding most
-most-holds f zero i h = absurd (let z : ⊥ = omega arith in z)
-most-holds f (suc n) i h =
+most_holds f zero i h = absurd (let z : ⊥ = omega arith in z)
+most_holds f (suc n) i h =
     ⊎_elim
     (λ (q : suc i ≡ suc n). let s : i ≡ n = omega arith in omega (arith, ap f s))
-    (λ (q : suc i < suc n). omega (arith, most-holds f n i (omega arith)))
+    (λ (q : suc i < suc n). omega (arith, most_holds f n i (omega arith)))
     (eq-or-lt_of_le h)
 
-pub most-within : (f : ℕ → ℕ) (n k : ℕ) → ((i : ℕ) → i < n → f i ≤ k) → most f n ≤ k
+pub most_within : (f : ℕ → ℕ) (n k : ℕ) → ((i : ℕ) → i < n → f i ≤ k) → most f n ≤ k
 unfolding most
-most-within f zero k h = omega arith
-most-within f (suc n) k h = omega (arith, most-within f n k (λ i l. h i (omega arith)), h n (omega arith))
+most_within f zero k h = omega arith
+most_within f (suc n) k h = omega (arith, most_within f n k (λ i l. h i (omega arith)), h n (omega arith))
 
-pub most-first : (f : ℕ → ℕ) (n k : ℕ) → k < most f n → (e : ℕ) × (e < n) × (k < f e) × ((i : ℕ) → i < e → f i ≤ k)
-most-first f n k above =
+pub most_first : (f : ℕ → ℕ) (n k : ℕ) → k < most f n → (e : ℕ) × (e < n) × (k < f e) × ((i : ℕ) → i < e → f i ≤ k)
+most_first f n k above =
     ⊎_elim
     (λ (e, h, w, none). (e, h, w, λ i l. let z = none i l in omega arith))
-    (λ none. absurd (let z : ⊥ = omega (arith, most-within f n k (λ i l. let z = none i l in omega arith)) in z))
+    (λ none. absurd (let z : ⊥ = omega (arith, most_within f n k (λ i l. let z = none i l in omega arith)) in z))
     (first n (λ i h. dec_lt k (f i)))

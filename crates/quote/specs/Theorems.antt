@@ -11,8 +11,8 @@ use Rattle.std.specs.Prelude.{◌≡◌, ◌↔◌, List, ℕ, ◌<◌, ◌≤�
 use Rattle.theory.specs.Move.{sum}
 use Rattle.graph.specs.Columns.{at}
 use Rattle.netlist.specs.declared.Netlist.{Netlist}
-use Rattle.netlist.specs.Answer.{Said, value, whole, atEdge}
-use Rattle.netlist.specs.Net.{atPeriod, plain}
+use Rattle.netlist.specs.Answer.{Said, value, whole, at_edge}
+use Rattle.netlist.specs.Net.{at_period, plain}
 use Rattle.netlist.specs.Circuit.{NoneMeetsIn}
 use Rattle.netlist.specs.Read.{Reads}
 use Rattle.netlist.specs.Write.{text_of}
@@ -31,11 +31,11 @@ LongerForbidsLess = (net : Netlist) (p q : ℕ) → p ≤ q → NoneMeetsIn net 
 -- ── Another period in the head ──────────────────────────────────────────────────────────────
 
 abbrev pub PeriodReads : Type 0
-PeriodReads = (t : List ℕ) (net : Netlist) (p : ℕ) → Reads t (value 0) net → 1 ≤ p → p ≤ 65535 → Reads (text_of (atPeriod net p)) (value 0) (atPeriod net p)
+PeriodReads = (t : List ℕ) (net : Netlist) (p : ℕ) → Reads t (value 0) net → 1 ≤ p → p ≤ 65535 → Reads (text_of (at_period net p)) (value 0) (at_period net p)
 
 -- "the period in its own head plays no part"
 abbrev pub PeriodPlaysNoPart : Type 0
-PeriodPlaysNoPart = (t t' : List ℕ) (net : Netlist) (p : ℕ) (s : Said) (a b c : ℕ) → Reads t (value 0) net → Reads t' (value 0) (atPeriod net p) → Quotes t s a b c → Quotes t' s a b c
+PeriodPlaysNoPart = (t t' : List ℕ) (net : Netlist) (p : ℕ) (s : Said) (a b c : ℕ) → Reads t (value 0) net → Reads t' (value 0) (at_period net p) → Quotes t s a b c → Quotes t' s a b c
 
 -- ── Retiming at the quoted period ───────────────────────────────────────────────────────────
 
@@ -44,8 +44,8 @@ pub record RetimedAt (net : Netlist) (p : ℕ) (r : Said) (out' : List ℕ) : Ty
   pub out : List ℕ
   pub lags : List ℤ
   pub lags' : List ℤ
-  pub room : Room out lags (atPeriod net p)
-  pub retimes : Retimes (text_of (atPeriod net p)) out lags r out' lags'
+  pub room : Room out lags (at_period net p)
+  pub retimes : Retimes (text_of (at_period net p)) out lags r out' lags'
 
 -- "where 65,535 would be refused 8 so is the quote"
 abbrev pub EightFact : Type 0
@@ -53,16 +53,16 @@ EightFact = (t : List ℕ) (net : Netlist) (s r : Said) (a b c : ℕ) (out' : Li
 
 -- "The numbers equal what a retiming at that period has or would have had." Where one of them is above its limit it is refused 9 or 10; what comes back has them.
 pub record AtTheQuote (net : Netlist) (p registers largest number : ℕ) (r : Said) (out' : List ℕ) : Type 0 where
-  pub nine : (32 < largest) ↔ ((e : ℕ) × (r ≡ atEdge 9 e))
+  pub nine : (32 < largest) ↔ ((e : ℕ) × (r ≡ at_edge 9 e))
   pub ten : largest ≤ 32 → (24 < number) ↔ (r ≡ whole 10)
   pub chosen : (k : ℕ) → r ≡ value k → k ≡ number
-  pub counts : (k : ℕ) → r ≡ value k → (new : Netlist) × Reads (take (length (text_of (plain (atPeriod net p)))) out') (value 0) new
+  pub counts : (k : ℕ) → r ≡ value k → (new : Netlist) × Reads (take (length (text_of (plain (at_period net p)))) out') (value 0) new
       × (registers ≡ sum (at new.count) new.edges) × (largest ≡ most (at new.count) new.edges)
 
 pub record QuotedPeriod (net : Netlist) (p registers largest number : ℕ) : Type 0 where
   pub smaller : (q : ℕ) (r : Said) (out' : List ℕ) → 1 ≤ q → q < p → RetimedAt net q r out' → r ≡ whole 8
   pub longer : (q : ℕ) (r : Said) (out' : List ℕ) → p ≤ q → q ≤ 65535 → RetimedAt net q r out' → ¬ (r ≡ whole 8)
-  pub its-numbers : (r : Said) (out' : List ℕ) → RetimedAt net p r out' → AtTheQuote net p registers largest number r out'
+  pub its_numbers : (r : Said) (out' : List ℕ) → RetimedAt net p r out' → AtTheQuote net p registers largest number r out'
 
 abbrev pub QuoteIsRetiming : Type 0
 QuoteIsRetiming = (t : List ℕ) (net : Netlist) (p a b c : ℕ) → Reads t (value 0) net → Quotes t (value p) a b c → QuotedPeriod net p a b c

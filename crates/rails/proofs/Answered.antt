@@ -1,9 +1,9 @@
 -- From what the call found to what it says.
---   Row, row_one, row-some    the row of the call
---   reads-fit, rails-reads    the lines of a text that reads keep their rules; a reading that is done says a number
---   total-is            a number that is given is the total of the text's netlist
---   sound-counts        a text that reads and a table that is long enough are given it
---   rails-stop, rails-short, rails-done    a refusal of the reading; 12; or the counts
+--   Row, row_one, row_some    the row of the call
+--   reads_fit, rails_reads    the lines of a text that reads keep their rules; a reading that is done says a number
+--   total_is            a number that is given is the total of the text's netlist
+--   sound_counts        a text that reads and a table that is long enough are given it
+--   rails_stop, rails_short, rails_done    a refusal of the reading; 12; or the counts
 use Prim.Native.Nat.{ℕ, ◌<◌, ◌≤◌}
 use native.Mathlib.Omega.{arith}
 use native.Mathlib.Decide.{dec_lt}
@@ -16,79 +16,79 @@ use Rattle.netlist.specs.declared.Place.{Place}
 use Rattle.netlist.specs.declared.Answer.{Answer}
 use Rattle.netlist.specs.declared.Answer.TheVariants.{Done, Refused}
 use Rattle.netlist.specs.Answer.{Said, value, says, whole}
-use Rattle.netlist.specs.Order.{◌orElse◌, here, past, Given, Otherwise, Stops}
+use Rattle.netlist.specs.Order.{◌or_else◌, here, past, Given, Otherwise, Stops}
 use Rattle.netlist.specs.Net.{graph_of, regs_of}
 use Rattle.netlist.specs.Read.{Reads}
 use Rattle.netlist.specs.Write.{joined}
 use Rattle.netlist.specs.Theorems.{Fit}
 use Rattle.netlist.proofs.Answered.{goes_on, stands}
 use Rattle.netlist.proofs.Fits.{clash}
-use Rattle.netlist.proofs.Order.{One, Some, else-one, else-some, given-one, given?, later, no_stop, otherwise-one, stops-one, stops?}
-use Rattle.netlist.proofs.Rows.{rows-length}
-use Rattle.netlist.proofs.theorems.One.{one-reading}
-use Rattle.netlist.proofs.theorems.Sound.{reads-keeps}
-use Rattle.rails.specs.Rails.{railsAt, railsIn, Rails}
+use Rattle.netlist.proofs.Order.{One, Some, else_one, else_some, given_one, given?, later, no_stop, otherwise_one, stops_one, stops?}
+use Rattle.netlist.proofs.Rows.{rows_length}
+use Rattle.netlist.proofs.theorems.One.{one_reading}
+use Rattle.netlist.proofs.theorems.Sound.{reads_keeps}
+use Rattle.rails.specs.Rails.{rails_at, rails_in, Rails}
 use Rattle.rails.specs.inner.Shared.{Counted}
-use Rattle.rails.proofs.Counted.{rails-total, counted-rows}
+use Rattle.rails.proofs.Counted.{rails_total, counted_rows}
 
 -- ── The row ─────────────────────────────────────────────────────────────────────────────────
 
 -- An earlier refusal, 12 where the room is less than n, or the number.
 abbrev pub Row : Said → ℕ → ℕ → ℕ → Said → Type 0
-Row c room n number = Stops c orElse Given (room < n) (whole 12) orElse Otherwise (value number)
+Row c room n number = Stops c or_else Given (room < n) (whole 12) or_else Otherwise (value number)
 
 pub row_one : (c : Said) (room n number : ℕ) → One (Row c room n number)
-row_one c room n number = else-one (stops-one c) (else-one (given-one (room < n) (whole 12)) (otherwise-one (value number)))
+row_one c room n number = else_one (stops_one c) (else_one (given_one (room < n) (whole 12)) (otherwise_one (value number)))
 
-pub row-some : (c : Said) (room n number : ℕ) → Some (Row c room n number)
-row-some c room n number = else-some (stops? c) (else-some (given? (whole 12) (dec_lt room n)) (value number, refl))
+pub row_some : (c : Said) (room n number : ℕ) → Some (Row c room n number)
+row_some c room n number = else_some (stops? c) (else_some (given? (whole 12) (dec_lt room n)) (value number, refl))
 
 -- ── A number that is given ──────────────────────────────────────────────────────────────────
 
-pub reads-fit : {t : List ℕ} {n : ℕ} {net : Netlist} → Reads t (value n) net → Fit net
-reads-fit r = (reads-keeps r).lines
+pub reads_fit : {t : List ℕ} {n : ℕ} {net : Netlist} → Reads t (value n) net → Fit net
+reads_fit r = (reads_keeps r).lines
 
-number-is : {room n number total : ℕ} → (Given (room < n) (whole 12) orElse Otherwise (value number)) (value total) → total ≡ number
-number-is (here (h, e)) = clash (cc)
-number-is (past _ e) = cc
+number_is : {room n number total : ℕ} → (Given (room < n) (whole 12) or_else Otherwise (value number)) (value total) → total ≡ number
+number_is (here (h, e)) = clash (cc)
+number_is (past _ e) = cc
 
-pub total-is : {t old new : List ℕ} {net : Netlist} {total : ℕ} → Reads t (value 0) net → Rails t old (value total) new → total ≡ railsIn (graph_of net) (regs_of net)
-total-is {t} {net = net} {total} r x =
-    let e = one-reading t x.checked (value 0) x.net net x.reads r in
-    subst (λ n. total ≡ railsIn (graph_of n) (regs_of n)) e.1 (number-is (later (value total) (no_stop 0 e.0) x.answer))
+pub total_is : {t old new : List ℕ} {net : Netlist} {total : ℕ} → Reads t (value 0) net → Rails t old (value total) new → total ≡ rails_in (graph_of net) (regs_of net)
+total_is {t} {net = net} {total} r x =
+    let e = one_reading t x.checked (value 0) x.net net x.reads r in
+    subst (λ n. total ≡ rails_in (graph_of n) (regs_of n)) e.1 (number_is (later (value total) (no_stop 0 e.0) x.answer))
 
-pub sound-counts : {t old new : List ℕ} {net : Netlist} {s : Said} → Reads t (value 0) net → net.nodes ≤ length old → Rails t old s new
-    → s ≡ value (railsIn (graph_of net) (regs_of net))
-sound-counts {t} {old} {net = net} {s} r h w =
-    let e = one-reading t w.checked (value 0) w.net net w.reads r in
-    let total = railsIn (graph_of net) (regs_of net) in
-    row_one (value 0) (length old) net.nodes total s (value total) (subst₂ (λ c n. Row c (length old) n.nodes (railsIn (graph_of n) (regs_of n)) s) e.0 e.1 w.answer)
+pub sound_counts : {t old new : List ℕ} {net : Netlist} {s : Said} → Reads t (value 0) net → net.nodes ≤ length old → Rails t old s new
+    → s ≡ value (rails_in (graph_of net) (regs_of net))
+sound_counts {t} {old} {net = net} {s} r h w =
+    let e = one_reading t w.checked (value 0) w.net net w.reads r in
+    let total = rails_in (graph_of net) (regs_of net) in
+    row_one (value 0) (length old) net.nodes total s (value total) (subst₂ (λ c n. Row c (length old) n.nodes (rails_in (graph_of n) (regs_of n)) s) e.0 e.1 w.answer)
     (past (λ x b. b) (past (λ x g. omega (arith, g.0)) refl))
 
 -- ── The three ends of the call ──────────────────────────────────────────────────────────────
 
 module _ (t old : List ℕ) (a : Answer) (net : Netlist) (reads : Reads t (says a) net) where
-  pub rails-stop : {q : ℕ} {p : Place} → a ≡ Refused q p → Rails t old (says a) old
-  rails-stop e =
-      let s = stands a e (joined (λ u. railsAt (graph_of net) (regs_of net) u ∷ []) net.nodes) old in
+  pub rails_stop : {q : ℕ} {p : Place} → a ≡ Refused q p → Rails t old (says a) old
+  rails_stop e =
+      let s = stands a e (joined (λ u. rails_at (graph_of net) (regs_of net) u ∷ []) net.nodes) old in
       record { checked = says a; net = net; reads = reads; answer = here s.0; table = s.1 }
 
   module _ {n : ℕ} (e : a ≡ Done n) where
-    pub rails-reads : Reads t (value n) net
-    rails-reads = subst (λ s. Reads t s net) (ap says e) reads
+    pub rails_reads : Reads t (value n) net
+    rails_reads = subst (λ s. Reads t s net) (ap says e) reads
 
-    pub rails-short : length old < net.nodes → Rails t old (whole 12) old
-    rails-short h = record { checked = says a; net = net; reads = reads; answer = past (goes_on a e) (here (h, refl)); table = refl }
+    pub rails_short : length old < net.nodes → Rails t old (whole 12) old
+    rails_short h = record { checked = says a; net = net; reads = reads; answer = past (goes_on a e) (here (h, refl)); table = refl }
 
-    pub rails-done : net.nodes ≤ length old → {total : ℕ} {rails new : List ℕ} → Counted net net.edges total rails
+    pub rails_done : net.nodes ≤ length old → {total : ℕ} {rails new : List ℕ} → Counted net net.edges total rails
         → new ≡ joined (λ u. at rails u ∷ []) net.nodes ++ drop net.nodes old → Rails t old (value total) new
-    rails-done h {total} {rails} {new} c p =
-        let rows = joined (λ u. railsAt (graph_of net) (regs_of net) u ∷ []) net.nodes in
-        let fit = reads-fit rails-reads in record {
+    rails_done h {total} {rails} {new} c p =
+        let rows = joined (λ u. rails_at (graph_of net) (regs_of net) u ∷ []) net.nodes in
+        let fit = reads_fit rails_reads in record {
           checked = says a;
           net = net;
           reads = reads;
-          answer = past (goes_on a e) (past (λ x g. omega (arith, g.0)) (ap value (c.all ∙ sym (rails-total net fit))));
-          table = p ∙ ap (λ l. l ++ drop net.nodes old) (counted-rows net c)
-              ∙ ap (λ k. rows ++ drop k old) (sym (rows-length (railsAt (graph_of net) (regs_of net)) net.nodes));
+          answer = past (goes_on a e) (past (λ x g. omega (arith, g.0)) (ap value (c.all ∙ sym (rails_total net fit))));
+          table = p ∙ ap (λ l. l ++ drop net.nodes old) (counted_rows net c)
+              ∙ ap (λ k. rows ++ drop k old) (sym (rows_length (rails_at (graph_of net) (regs_of net)) net.nodes));
         }

@@ -1,10 +1,10 @@
 -- What the edges below a number share with an edge: its nearest registers.
---   far-none, far-more  none yet; one register more that agrees
---   far-ends            it ends at the last register of one, or at the first that differs
---   shares-by, shares-other, shares-some    an edge from the same node with a register there shares it where both agree; no other edge does
---   shared-by, shared-some       some edge below n shares it
---   shared-none, shared-other, shared-further    the nearest that are shared, one edge more
---   paid-few, paid-past, paid-alone    what is paid for: no more than there are; all but the nearest; all, where no lower edge leaves the node
+--   far_none, far_more  none yet; one register more that agrees
+--   far_ends            it ends at the last register of one, or at the first that differs
+--   shares_by, shares-other, shares_some    an edge from the same node with a register there shares it where both agree; no other edge does
+--   shared_by, shared_some       some edge below n shares it
+--   shared_none, shared_other, shared_further    the nearest that are shared, one edge more
+--   paid_few, paid_past, paid_alone    what is paid for: no more than there are; all but the nearest; all, where no lower edge leaves the node
 use Prim.Native.Nat.{ℕ, zero, suc, ◌+◌, ◌-◌, ◌<◌, ◌≤◌}
 use native.Mathlib.Omega.{arith}
 use native.Mathlib.Numerals.{add-one}
@@ -18,19 +18,19 @@ use Rattle.theory.specs.Graph.{Graph}
 use Rattle.theory.specs.Clock.{Regs}
 use Rattle.theory.proofs.numbers.Sums.{sum_same}
 use Rattle.netlist.proofs.Fits.{clash, both}
-use Rattle.rails.specs.Rails.{outward, agreed, shares, sharedBelow, paidOn}
+use Rattle.rails.specs.Rails.{outward, agreed, shares, shared_below, paid_on}
 use Rattle.rails.specs.inner.Shared.{Far, Further, Shared}
-use Rattle.rails.proofs.Agreed.{agreed-each, agreed-by}
-use Rattle.rails.proofs.Sums.{sum-ones, sum-all, sum-past}
+use Rattle.rails.proofs.Agreed.{agreed_each, agreed_by}
+use Rattle.rails.proofs.Sums.{sum_ones, sum_all, sum_past}
 
 -- ── Further ─────────────────────────────────────────────────────────────────────────────────
 
 module _ {f : ℕ → ℕ} {w : ℕ} {g : ℕ → ℕ} {x m : ℕ} where
-  pub far-none : m ≤ w → Far f w g x m m
-  far-none h = record { low = omega arith; within = h; agree = λ d a b. absurd (let z : ⊥ = omega arith in z) }
+  pub far_none : m ≤ w → Far f w g x m m
+  far_none h = record { low = omega arith; within = h; agree = λ d a b. absurd (let z : ⊥ = omega arith in z) }
 
-  pub far-more : {n : ℕ} → Far f w g x m n → n < w → n < x → agreed f g (n + 1) ≡ true → Far f w g x m (n + 1)
-  far-more {n} s h k e = record {
+  pub far_more : {n : ℕ} → Far f w g x m n → n < w → n < x → agreed f g (n + 1) ≡ true → Far f w g x m (n + 1)
+  far_more {n} s h k e = record {
     low = omega (arith, s.low);
     within = omega arith;
     agree = λ d a b. go d a b (ℕ_discrete d n);
@@ -40,8 +40,8 @@ module _ {f : ℕ → ℕ} {w : ℕ} {g : ℕ → ℕ} {x m : ℕ} where
       go d a b (yes z) = (omega arith, ap (agreed f g) (let y : suc d ≡ n + 1 = omega arith in y) ∙ e)
       go d a b (no z) = s.agree d a (omega arith)
 
-  pub far-ends : {n : ℕ} → Far f w g x m n → (n < w → n < x → agreed f g (n + 1) ≡ false) → Further f w g x m n
-  far-ends {n} s e = record { far = s; ends = λ h k. rw (sym (add-one n)) (e h k) }
+  pub far_ends : {n : ℕ} → Far f w g x m n → (n < w → n < x → agreed f g (n + 1) ≡ false) → Further f w g x m n
+  far_ends {n} s e = record { far = s; ends = λ h k. rw (sym (add-one n)) (e h k) }
 
 -- ── One register ────────────────────────────────────────────────────────────────────────────
 
@@ -49,58 +49,58 @@ module _ (G : Graph) (R : Regs) (e : ℕ) where
   abbrev alike : ℕ → ℕ → Bool
   alike i d = agreed (outward R e) (outward R i) (suc d)
 
-  pub shares-by : (i d : ℕ) → G.src i ≡ G.src e → d < R.count i → alike i d ≡ true → shares G R e d i ≡ true
-  shares-by i d p h a = let q = eq-eqb (G.src i) (G.src e) p in let k = lt-ltb d (R.count i) h in rw (q, k, a)
+  pub shares_by : (i d : ℕ) → G.src i ≡ G.src e → d < R.count i → alike i d ≡ true → shares G R e d i ≡ true
+  shares_by i d p h a = let q = eq-eqb (G.src i) (G.src e) p in let k = lt-ltb d (R.count i) h in rw (q, k, a)
 
-  pub shares-some : (i d : ℕ) → shares G R e d i ≡ true → (G.src i ≡ G.src e) × (d < R.count i) × (alike i d ≡ true)
-  shares-some i d h =
+  pub shares_some : (i d : ℕ) → shares G R e d i ≡ true → (G.src i ≡ G.src e) × (d < R.count i) × (alike i d ≡ true)
+  shares_some i d h =
       let a = both (eqb (G.src i) (G.src e)) _ h in
       let b = both (ltb d (R.count i)) _ a.1 in
       (eqb-true (G.src i) (G.src e) a.0, ltb-true d (R.count i) b.0, (both (alike i d) true b.1).0)
 
-  pub shared-by : (n d i : ℕ) → i < n → shares G R e d i ≡ true → sharedBelow G R e d n ≡ true
-  unfolding sharedBelow
-  shared-by zero d i h s = absurd (omega arith)
-  shared-by (suc n) d i h s = go (λ l. shared-by n d i l s) (ℕ_discrete i n) (shares G R e d n) refl
+  pub shared_by : (n d i : ℕ) → i < n → shares G R e d i ≡ true → shared_below G R e d n ≡ true
+  unfolding shared_below
+  shared_by zero d i h s = absurd (omega arith)
+  shared_by (suc n) d i h s = go (λ l. shared_by n d i l s) (ℕ_discrete i n) (shares G R e d n) refl
     where
-      go : (i < n → sharedBelow G R e d n ≡ true) → Dec (i ≡ n) → (b : Bool) → shares G R e d n ≡ b → cond b true (sharedBelow G R e d n) ≡ true
+      go : (i < n → shared_below G R e d n ≡ true) → Dec (i ≡ n) → (b : Bool) → shares G R e d n ≡ b → cond b true (shared_below G R e d n) ≡ true
       go before z true q = refl
       go before (yes z) false q = let y : shares G R e d n ≡ true = subst (λ j. shares G R e d j ≡ true) z s in clash (cc)
       go before (no z) false q = before (omega arith)
 
-  pub shared-some : (n d : ℕ) → sharedBelow G R e d n ≡ true → (i : ℕ) × (i < n) × (shares G R e d i ≡ true)
-  unfolding sharedBelow
-  shared-some zero d h = clash (cc)
-  shared-some (suc n) d h = go (λ q. shared-some n d q) (shares G R e d n) refl h
+  pub shared_some : (n d : ℕ) → shared_below G R e d n ≡ true → (i : ℕ) × (i < n) × (shares G R e d i ≡ true)
+  unfolding shared_below
+  shared_some zero d h = clash (cc)
+  shared_some (suc n) d h = go (λ q. shared_some n d q) (shares G R e d n) refl h
     where
-      go : (sharedBelow G R e d n ≡ true → (i : ℕ) × (i < n) × (shares G R e d i ≡ true)) → (b : Bool) → shares G R e d n ≡ b
-          → cond b true (sharedBelow G R e d n) ≡ true → (i : ℕ) × (i < suc n) × (shares G R e d i ≡ true)
+      go : (shared_below G R e d n ≡ true → (i : ℕ) × (i < n) × (shares G R e d i ≡ true)) → (b : Bool) → shares G R e d n ≡ b
+          → cond b true (shared_below G R e d n) ≡ true → (i : ℕ) × (i < suc n) × (shares G R e d i ≡ true)
       go before true q h = (n, omega arith, q)
       go before false q h = let r = before h in (r.0, omega (arith, r.1), r.2)
 
   -- ── The nearest ───────────────────────────────────────────────────────────────────────────
 
-  pub shared-none : Shared G R e 0 0
-  unfolding sharedBelow
-  shared-none = record { within = omega arith; each = λ d h. sym (le-ltb d 0 (omega arith)) }
+  pub shared_none : Shared G R e 0 0
+  unfolding shared_below
+  shared_none = record { within = omega arith; each = λ d h. sym (le-ltb d 0 (omega arith)) }
 
   module _ {n m : ℕ} (s : Shared G R e n m) where
-    pub shared-other : ¬ (G.src n ≡ G.src e) → Shared G R e (n + 1) m
-    unfolding sharedBelow
-    shared-other z = let q = ne_eqb (G.src n) (G.src e) z in rw (add-one n) (record { within = s.within; each = λ d h. rw q (s.each d h) })
+    pub shared_other : ¬ (G.src n ≡ G.src e) → Shared G R e (n + 1) m
+    unfolding shared_below
+    shared_other z = let q = ne_eqb (G.src n) (G.src e) z in rw (add-one n) (record { within = s.within; each = λ d h. rw q (s.each d h) })
 
     -- What agrees out to some distance agrees nearer, so what edge n shares are nearest registers too, and only those past m need a look.
     -- By cases: shared before, shared with n now, or neither, as already register m' is not.
-    pub shared-further : {m' : ℕ} → G.src n ≡ G.src e → Further (outward R e) (R.count e) (outward R n) (R.count n) m m' → Shared G R e (n + 1) m'
-    unfolding sharedBelow
-    shared-further {m'} p f = rw (add-one n) (record { within = f.far.within; each = λ d h. go d h (dec_lt d m) (dec_lt d m') })
+    pub shared_further : {m' : ℕ} → G.src n ≡ G.src e → Further (outward R e) (R.count e) (outward R n) (R.count n) m m' → Shared G R e (n + 1) m'
+    unfolding shared_below
+    shared_further {m'} p f = rw (add-one n) (record { within = f.far.within; each = λ d h. go d h (dec_lt d m) (dec_lt d m') })
       where
         differs : (d : ℕ) → d < R.count e → m' ≤ d → shares G R e d n ≡ false
         differs d h k =
             false_from_ne_true (shares G R e d n)
             λ t.
-            let b = shares-some n d t in
-            let c = agreed-by (outward R e) (outward R n) (suc m') (λ i l. agreed-each (outward R e) (outward R n) (suc d) b.2 i (omega arith)) in
+            let b = shares_some n d t in
+            let c = agreed_by (outward R e) (outward R n) (suc m') (λ i l. agreed_each (outward R e) (outward R n) (suc d) b.2 i (omega arith)) in
             let z = f.ends (omega arith) (omega (arith, b.1)) in
             clash (cc)
 
@@ -108,29 +108,29 @@ module _ (G : Graph) (R : Regs) (e : ℕ) where
         before true = refl
         before false = refl
 
-        go : (d : ℕ) → d < R.count e → Dec (d < m) → Dec (d < m') → sharedBelow G R e d (suc n) ≡ ltb d m'
+        go : (d : ℕ) → d < R.count e → Dec (d < m) → Dec (d < m') → shared_below G R e d (suc n) ≡ ltb d m'
         go d h (yes a) b =
             let w = s.each d h ∙ lt-ltb d m a in
             rw w (before (shares G R e d n) ∙ sym (lt-ltb d m' (omega (arith, f.far.low))))
         go d h (no a) (yes b) =
             let k = f.far.agree d (omega arith) b in
-            let w = shares-by n d p k.0 k.1 in
-            ap (λ t. cond t true (sharedBelow G R e d n)) w ∙ sym (lt-ltb d m' b)
+            let w = shares_by n d p k.0 k.1 in
+            ap (λ t. cond t true (shared_below G R e d n)) w ∙ sym (lt-ltb d m' b)
         go d h (no a) (no b) =
-            ap (λ t. cond t true (sharedBelow G R e d n)) (differs d h (omega arith))
+            ap (λ t. cond t true (shared_below G R e d n)) (differs d h (omega arith))
             ∙ s.each d h ∙ le-ltb d m (omega arith) ∙ sym (le-ltb d m' (omega arith))
 
   -- ── What is paid for ──────────────────────────────────────────────────────────────────────
 
-  pub paid-few : paidOn G R e ≤ R.count e
-  paid-few = sum-ones (λ d. sharedBelow G R e d e) (R.count e)
+  pub paid_few : paid_on G R e ≤ R.count e
+  paid_few = sum_ones (λ d. shared_below G R e d e) (R.count e)
 
-  pub paid-past : {m : ℕ} → Shared G R e e m → paidOn G R e ≡ R.count e - m
-  paid-past {m} s =
-      sum_same (λ d. cond (sharedBelow G R e d e) 0 1) (λ d. cond (ltb d m) 0 1) (R.count e) (λ d h. ap (λ t. cond t 0 1) (s.each d h))
-      ∙ sum-past m (R.count e)
+  pub paid_past : {m : ℕ} → Shared G R e e m → paid_on G R e ≡ R.count e - m
+  paid_past {m} s =
+      sum_same (λ d. cond (shared_below G R e d e) 0 1) (λ d. cond (ltb d m) 0 1) (R.count e) (λ d h. ap (λ t. cond t 0 1) (s.each d h))
+      ∙ sum_past m (R.count e)
 
-  pub paid-alone : ((i : ℕ) → i < e → ¬ (G.src i ≡ G.src e)) → paidOn G R e ≡ R.count e
-  paid-alone alone =
-      sum-all (λ d. sharedBelow G R e d e) (R.count e)
-      λ d h. false_from_ne_true (sharedBelow G R e d e) (λ t. let r = shared-some e d t in alone r.0 r.1 (shares-some r.0 d r.2).0)
+  pub paid_alone : ((i : ℕ) → i < e → ¬ (G.src i ≡ G.src e)) → paid_on G R e ≡ R.count e
+  paid_alone alone =
+      sum_all (λ d. shared_below G R e d e) (R.count e)
+      λ d h. false_from_ne_true (shared_below G R e d e) (λ t. let r = shared_some e d t in alone r.0 r.1 (shares_some r.0 d r.2).0)

@@ -2,10 +2,10 @@
 --   outward R e d       the start value on edge e at distance d from the node that it leaves
 --   agreed f g n        f and g agree at the distances below n
 --   shares G R e d i    edge i shares the register of e at distance d
---   sharedBelow G R e d n    some edge below n does
---   paidOn G R e        how many registers of e no lower edge shares
---   railsAt G R u       the count of node u
---   railsIn G R         the total
+--   shared_below G R e d n   some edge below n does
+--   paid_on G R e       how many registers of e no lower edge shares
+--   rails_at G R u      the count of node u
+--   rails_in G R        the total
 --   Rails t old s new   counting the text t into a table that held `old` says s and leaves `new`
 use Rattle.std.specs.Prelude.{◌≡◌, Bool, true, false, cond, List, [], ◌∷◌, ℕ, zero, suc, ◌-◌, ◌<◌, eqb, ltb, length}
 use Rattle.theory.specs.Graph.{Graph}
@@ -13,7 +13,7 @@ use Rattle.theory.specs.Clock.{Regs}
 use Rattle.theory.specs.Move.{sum}
 use Rattle.netlist.specs.declared.Netlist.{Netlist}
 use Rattle.netlist.specs.Answer.{Said, value, whole, holds}
-use Rattle.netlist.specs.Order.{◌orElse◌, Given, Otherwise, Stops}
+use Rattle.netlist.specs.Order.{◌or_else◌, Given, Otherwise, Stops}
 use Rattle.netlist.specs.Net.{graph_of, regs_of}
 use Rattle.netlist.specs.Write.{joined}
 use Rattle.rules.specs.Rules.{every}
@@ -33,21 +33,21 @@ abbrev pub shares : Graph → Regs → ℕ → ℕ → ℕ → Bool
 shares G R e d i = every (eqb (G.src i) (G.src e) ∷ ltb d (R.count i) ∷ agreed (outward R e) (outward R i) (suc d) ∷ [])
 
 -- With some edge below n.
-unfoldable pub sharedBelow : Graph → Regs → ℕ → ℕ → ℕ → Bool
-sharedBelow G R e d zero = false
-sharedBelow G R e d (suc n) = cond (shares G R e d n) true (sharedBelow G R e d n)
+unfoldable pub shared_below : Graph → Regs → ℕ → ℕ → ℕ → Bool
+shared_below G R e d zero = false
+shared_below G R e d (suc n) = cond (shares G R e d n) true (shared_below G R e d n)
 
 -- "It pays once for each different run": at the lowest edge that has it. (`RunsCounted` in specs/Theorems counts the runs themselves.)
-abbrev pub paidOn : Graph → Regs → ℕ → ℕ
-paidOn G R e = sum (λ d. cond (sharedBelow G R e d e) 0 1) (R.count e)
+abbrev pub paid_on : Graph → Regs → ℕ → ℕ
+paid_on G R e = sum (λ d. cond (shared_below G R e d e) 0 1) (R.count e)
 
 -- "each node's count": over the edges that leave it.
-abbrev pub railsAt : Graph → Regs → ℕ → ℕ
-railsAt G R u = sum (λ e. cond (eqb (G.src e) u) (paidOn G R e) 0) G.edges
+abbrev pub rails_at : Graph → Regs → ℕ → ℕ
+rails_at G R u = sum (λ e. cond (eqb (G.src e) u) (paid_on G R e) 0) G.edges
 
 -- "the total"
-abbrev pub railsIn : Graph → Regs → ℕ
-railsIn G R = sum (railsAt G R) G.nodes
+abbrev pub rails_in : Graph → Regs → ℕ
+rails_in G R = sum (rails_at G R) G.nodes
 
 -- "for a text writes each node's count, in node order, into a lent table of 32-bit words and gives the total"
 pub record Rails (t old : List ℕ) (s : Said) (new : List ℕ) : Type 0 where
@@ -56,6 +56,6 @@ pub record Rails (t old : List ℕ) (s : Said) (new : List ℕ) : Type 0 where
   pub reads : Reads t checked net
   -- "A table shorter than the nodes is 12."
   pub answer : (Stops checked
-      orElse Given (length old < net.nodes) (whole 12)
-      orElse Otherwise (value (railsIn (graph_of net) (regs_of net)))) s
-  pub table : new ≡ holds s (joined (λ u. railsAt (graph_of net) (regs_of net) u ∷ []) net.nodes) old
+      or_else Given (length old < net.nodes) (whole 12)
+      or_else Otherwise (value (rails_in (graph_of net) (regs_of net)))) s
+  pub table : new ≡ holds s (joined (λ u. rails_at (graph_of net) (regs_of net) u ∷ []) net.nodes) old

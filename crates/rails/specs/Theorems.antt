@@ -17,7 +17,7 @@ use Rattle.netlist.specs.Read.{Reads}
 use Rattle.netlist.specs.Write.{joined, text_of}
 use Rattle.retime.specs.Retime.{Retimes}
 use Rattle.retime.specs.Demand.{ComesBack}
-use Rattle.rails.specs.Rails.{outward, railsAt, Rails}
+use Rattle.rails.specs.Rails.{outward, rails_at, Rails}
 
 -- Every text has one outcome with each table, and one only.
 abbrev pub SomeRails : Type 0
@@ -69,7 +69,7 @@ pub record RunsOf (G : Graph) (R : Regs) (u number : ℕ) : Type 0 where
   pub many : number ≡ length list
 
 abbrev pub RunsCounted : Type 0
-RunsCounted = (G : Graph) (R : Regs) (u : ℕ) → RunsOf G R u (railsAt G R u)
+RunsCounted = (G : Graph) (R : Regs) (u : ℕ) → RunsOf G R u (rails_at G R u)
 
 -- ── Retimed texts ───────────────────────────────────────────────────────────────────────────
 

@@ -8,7 +8,7 @@ ghost use Rattle.netlist.specs.Answer.{says};
 ghost use Rattle.netlist.specs.Net.{graph_of, regs_of};
 ghost use Rattle.netlist.specs.Write.{joined};
 ghost use Rattle.netlist.specs.Theorems.{Fit};
-ghost use Rattle.rails.specs.Rails.{paidOn, Rails};
+ghost use Rattle.rails.specs.Rails.{paid_on, Rails};
 ghost use Rattle.rails.specs.inner.Shared.{Further, Counted};
 
 use graph::NODES;
@@ -51,7 +51,7 @@ fn unshared(count: u32, shared: u32) -> u32
 // How many registers of the edge e are paid for: those that no lower edge shares.
 fn paid(net: &Netlist, e: usize) -> u32
     requires { Fit net.now × (e < net.now.edges) }
-    ensures { (result ≡ paidOn (graph_of net.now) (regs_of net.now) e) × (result ≤ 32) }
+    ensures { (result ≡ paid_on (graph_of net.now) (regs_of net.now) e) × (result ≤ 32) }
 {
     let from = net.from[e];
     let count = net.count[e] as u32;

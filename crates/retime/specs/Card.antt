@@ -2,18 +2,18 @@
 --   printed             the bytes of lines as they are printed
 --   Card, Result        a text, and what is to come of it
 --   Claim               that it does come of it, by the definitions, in all buffers that are long enough
---   cardOf, cardBack   a card from its parts: the head and the nodes, the edges, what is to come of them, or the new edges with the lags and how many values are chosen
+--   card_of, card_back  a card from its parts: the head and the nodes, the edges, what is to come of them, or the new edges with the lags and how many values are chosen
 --   cards               the cards
 --   CardsHold, DemandAsks    what is to be proved of them
 use Rattle.std.specs.Prelude.{◌≡◌, List, [], ◌∷◌, ◌++◌, ℕ, ◌<◌, ◌≤◌, ℤ, pos, negsuc, length, get_or, take, drop}
 use Prim.Native.Char.{code}
 use Prim.Native.String.{String, [] as end, ◌∷◌ as ◌then◌}
 use Rattle.netlist.specs.declared.Netlist.{Netlist}
-use Rattle.netlist.specs.Answer.{Said, value, whole, atEdge}
+use Rattle.netlist.specs.Answer.{Said, value, whole, at_edge}
 use Rattle.netlist.specs.Read.{Reads}
 use Rattle.simulate.specs.Run.{Runs}
 use Rattle.retime.specs.Retime.{Room, Retimes}
-use Rattle.retime.specs.Demand.{Asked, ComesBack, tableLag, Came}
+use Rattle.retime.specs.Demand.{Asked, ComesBack, table_lag, Came}
 
 unfoldable pub bytes : String → List ℕ
 bytes end = []
@@ -48,72 +48,72 @@ Claim c = ClaimOf c.text c.result
 -- ── The cards ───────────────────────────────────────────────────────────────────────────────
 
 -- A text is its head and nodes, and then its edges.
-abbrev pub cardOf : (front edges : List String) → Result → Card
-cardOf front edges o = record { text = printed (front ++ edges); result = o }
+abbrev pub card_of : (front edges : List String) → Result → Card
+card_of front edges o = record { text = printed (front ++ edges); result = o }
 
 -- The new text has the same head and nodes, and new edges.
-abbrev pub cardBack : (front edges new : List String) → List ℤ → ℕ → Card
-cardBack front edges new r chosen = cardOf front edges (back (printed (front ++ new)) r chosen)
+abbrev pub card_back : (front edges new : List String) → List ℤ → ℕ → Card
+card_back front edges new r chosen = card_of front edges (back (printed (front ++ new)) r chosen)
 
 -- "Card A, whole".
 abbrev pub A : Card
-A = cardBack ("0100016400040003" ∷ "020000" ∷ "020301" ∷ "020301" ∷ "020100" ∷ [])
+A = card_back ("0100016400040003" ∷ "020000" ∷ "020301" ∷ "020301" ∷ "020100" ∷ [])
     ("03000000010100000001" ∷ "03000100020000000000" ∷ "03000200030100000000" ∷ [])
     ("03000000010000000000" ∷ "03000100020100000000" ∷ "03000200030100000000" ∷ []) (pos 0 ∷ negsuc 0 ∷ pos 0 ∷ pos 0 ∷ []) 0
 
 -- "A with period 2: node 2 has lag −1 too, the last edge holds 2 registers, values hex 2."
 abbrev pub B : Card
-B = cardBack ("0100026400040003" ∷ "020000" ∷ "020301" ∷ "020301" ∷ "020100" ∷ [])
+B = card_back ("0100026400040003" ∷ "020000" ∷ "020301" ∷ "020301" ∷ "020100" ∷ [])
     ("03000000010100000001" ∷ "03000100020000000000" ∷ "03000200030100000000" ∷ [])
     ("03000000010000000000" ∷ "03000100020000000000" ∷ "03000200030200000002" ∷ []) (pos 0 ∷ negsuc 0 ∷ negsuc 0 ∷ pos 0 ∷ []) 0
 
 -- "two inputs into an AND, then an inverter, then one register with value 0 before the output; delays 1, period 1: inverter lag 1, chosen value 1."
 abbrev pub C : Card
-C = cardBack ("0100016400050004" ∷ "020000" ∷ "020000" ∷ "020401" ∷ "020301" ∷ "020100" ∷ [])
+C = card_back ("0100016400050004" ∷ "020000" ∷ "020000" ∷ "020401" ∷ "020301" ∷ "020100" ∷ [])
     ("03000000020000000000" ∷ "03000100020000000000" ∷ "03000200030000000000" ∷ "03000300040100000000" ∷ [])
     ("03000000020000000000" ∷ "03000100020000000000" ∷ "03000200030100000001" ∷ "03000300040000000000" ∷ []) (pos 0 ∷ pos 0 ∷ pos 0 ∷ pos 1 ∷ pos 0 ∷ []) 1
 
 -- "input, two buffers in a row, the second feeding two outputs, one through a register of value 0, one through a register of value 1; period 1: `0F0B000000`."
 abbrev pub D : Card
-D = cardOf ("0100016400050004" ∷ "020000" ∷ "020201" ∷ "020201" ∷ "020100" ∷ "020100" ∷ [])
+D = card_of ("0100016400050004" ∷ "020000" ∷ "020201" ∷ "020201" ∷ "020100" ∷ "020100" ∷ [])
     ("03000000010000000000" ∷ "03000100020000000000" ∷ "03000200030100000000" ∷ "03000200040100000001" ∷ []) (refuses (whole 11))
 
 -- "period 2: unmoved."
 abbrev pub E : Card
-E = cardBack ("0100026400050004" ∷ "020000" ∷ "020201" ∷ "020201" ∷ "020100" ∷ "020100" ∷ [])
+E = card_back ("0100026400050004" ∷ "020000" ∷ "020201" ∷ "020201" ∷ "020100" ∷ "020100" ∷ [])
     ("03000000010000000000" ∷ "03000100020000000000" ∷ "03000200030100000000" ∷ "03000200040100000001" ∷ [])
     ("03000000010000000000" ∷ "03000100020000000000" ∷ "03000200030100000000" ∷ "03000200040100000001" ∷ []) (pos 0 ∷ pos 0 ∷ pos 0 ∷ pos 0 ∷ pos 0 ∷ []) 0
 
 -- "input, two buffers, output, no registers, period 1: 8."
 abbrev pub F : Card
-F = cardOf ("0100016400040003" ∷ "020000" ∷ "020201" ∷ "020201" ∷ "020100" ∷ [])
+F = card_of ("0100016400040003" ∷ "020000" ∷ "020201" ∷ "020201" ∷ "020100" ∷ [])
     ("03000000010000000000" ∷ "03000100020000000000" ∷ "03000200030000000000" ∷ []) (refuses (whole 8))
 
 -- "two inputs, each with a buffer, into an OR, register 1, output; period 1: chosen 0 then 1."
 abbrev pub G : Card
-G = cardBack ("0100016400060005" ∷ "020000" ∷ "020000" ∷ "020201" ∷ "020201" ∷ "020501" ∷ "020100" ∷ [])
+G = card_back ("0100016400060005" ∷ "020000" ∷ "020000" ∷ "020201" ∷ "020201" ∷ "020501" ∷ "020100" ∷ [])
     ("03000000020000000000" ∷ "03000100030000000000" ∷ "03000200040000000000" ∷ "03000300040000000000" ∷ "03000400050100000001" ∷ [])
     ("03000000020000000000" ∷ "03000100030000000000" ∷ "03000200040100000000" ∷ "03000300040100000001" ∷ "03000400050000000000" ∷ []) (pos 0 ∷ pos 0 ∷ pos 0 ∷ pos 0 ∷ pos 1 ∷ pos 0 ∷ []) 2
 
 -- "input and a one-register loop (value 0) into an XOR; vectors 1, 0, 1, 1 run to 1, 1, 0, 1."
 abbrev pub H : Card
-H = cardOf ("0100016400030003" ∷ "020000" ∷ "020601" ∷ "020100" ∷ [])
+H = card_of ("0100016400030003" ∷ "020000" ∷ "020601" ∷ "020100" ∷ [])
     ("03000000010000000000" ∷ "03000100010100000000" ∷ "03000100020000000000" ∷ []) (runs (1 ∷ 0 ∷ 1 ∷ 1 ∷ []) (1 ∷ 1 ∷ 0 ∷ 1 ∷ []))
 
 -- "16 registers, buffer, 16, period 5: accepted."
 abbrev pub I : Card
-I = cardBack ("0100056400030002" ∷ "020000" ∷ "020201" ∷ "020100" ∷ [])
+I = card_back ("0100056400030002" ∷ "020000" ∷ "020201" ∷ "020100" ∷ [])
     ("03000000011000000000" ∷ "03000100021000000000" ∷ [])
     ("03000000010000000000" ∷ "03000100022000000000" ∷ []) (pos 0 ∷ negsuc 15 ∷ pos 0 ∷ []) 0
 
 -- "20 and 20: 9."
 abbrev pub J : Card
-J = cardOf ("0100056400030002" ∷ "020000" ∷ "020201" ∷ "020100" ∷ [])
-    ("03000000011400000000" ∷ "03000100021400000000" ∷ []) (refuses (atEdge 9 1))
+J = card_of ("0100056400030002" ∷ "020000" ∷ "020201" ∷ "020100" ∷ [])
+    ("03000000011400000000" ∷ "03000100021400000000" ∷ []) (refuses (at_edge 9 1))
 
 -- Three inputs, each with a buffer, into a selector, register 1, output; period 1: selector lag 1, chosen 0, 1, 0.
 abbrev pub S : Card
-S = cardBack ("0100016400080007" ∷ "020000" ∷ "020000" ∷ "020000" ∷ "020201" ∷ "020201" ∷ "020201" ∷ "020A01" ∷ "020100" ∷ [])
+S = card_back ("0100016400080007" ∷ "020000" ∷ "020000" ∷ "020000" ∷ "020201" ∷ "020201" ∷ "020201" ∷ "020A01" ∷ "020100" ∷ [])
     ("03000000030000000000" ∷ "03000100040000000000" ∷ "03000200050000000000"
     ∷ "03000300060000000000" ∷ "03000400060000000000" ∷ "03000500060000000000" ∷ "03000600070100000001" ∷ [])
     ("03000000030000000000" ∷ "03000100040000000000" ∷ "03000200050000000000"
@@ -132,4 +132,4 @@ abbrev pub DemandAsks : Type 0
 DemandAsks = (out : List ℕ) (lags : List ℤ) → length A.text ≤ length out → 4 ≤ length lags
     → (net : Netlist) × Asked A.text out lags net
     × ((s : Said) (out' : List ℕ) (lags' : List ℤ) → Retimes A.text out lags s out' lags'
-    → ComesBack s × Came A.text net (take (length A.text) out') (tableLag lags'))
+    → ComesBack s × Came A.text net (take (length A.text) out') (table_lag lags'))

@@ -6,12 +6,12 @@ ghost use Rattle.std.proofs.lemmas.List.Edits.{sets};
 ghost use Rattle.graph.specs.Columns.{at};
 ghost use Rattle.netlist.specs.Answer.{value, says, holds};
 ghost use Rattle.netlist.specs.Read.{Reads};
-ghost use Rattle.netlist.specs.Write.{joined, text_of, textIn};
+ghost use Rattle.netlist.specs.Write.{joined, text_of, text_in};
 ghost use Rattle.netlist.specs.Circuit.{SoundIn};
 ghost use Rattle.simulate.specs.inner.Ran.{Steppable};
 ghost use Rattle.lags.specs.inner.Lags.{Sure};
-ghost use Rattle.moves.specs.inner.Labels.{lagsOf, Labelled};
-ghost use Rattle.retime.specs.Retime.{LeastLags, lagTable, MovedBy, Room, Retimes};
+ghost use Rattle.moves.specs.inner.Labels.{lags_of, Labelled};
+ghost use Rattle.retime.specs.Retime.{LeastLags, lag_table, MovedBy, Room, Retimes};
 ghost use Rattle.retime.specs.Demand.{Demand3};
 ghost use Rattle.retime.specs.inner.Leaves.{FromShort, Leaves, MovesTo};
 
@@ -31,8 +31,8 @@ struct Retimed {
 // A netlist moved by its least labels: 9, 10 or 11, or the moved netlist.
 fn moved_by(net: Netlist, lab: &[u32]) -> Retimed
     requires steppable { Steppable net × Sure net × SoundIn net × Labelled net lab.now }
-    requires least_lags { LeastLags net (lagsOf lab.now) }
-    ensures { MovesTo net (lagsOf lab.now) (says result.answer) result.net }
+    requires least_lags { LeastLags net (lags_of lab.now) }
+    ensures { MovesTo net (lags_of lab.now) (says result.answer) result.net }
 {
     let edges = net.edges as usize;
     let counts = new_counts(net, lab);
@@ -68,7 +68,7 @@ fn moved_by(net: Netlist, lab: &[u32]) -> Retimed
 fn put_lags(lab: &[u32], nodes: usize, lags: &mut [i32])
     requires nodes_in_bounds { (nodes ≤ length lab.now) × (nodes ≤ length lags.old) }
     requires by_index { (v : ℕ) → v < nodes → at lab.now v < 32768 }
-    ensures { lags.new ≡ joined (λ v. lagsOf lab.now v ∷ []) nodes ++ drop nodes lags.old }
+    ensures { lags.new ≡ joined (λ v. lags_of lab.now v ∷ []) nodes ++ drop nodes lags.old }
 {
     let mut v = 0;
     while v < nodes {
@@ -81,8 +81,8 @@ fn put_lags(lab: &[u32], nodes: usize, lags: &mut [i32])
 fn put_both(net: Netlist, lab: &[u32], out: &mut [u8], lags: &mut [i32])
     requires nodes_in_bounds { (net.nodes ≤ length lab.now) × (net.nodes ≤ length lags.old) }
     requires by_index { (v : ℕ) → v < net.nodes → at lab.now v < 32768 }
-    ensures out_after { out.new ≡ sets out.old 0 (textIn net (length out.old)) }
-    ensures lags_after { lags.new ≡ holds (value 0) (lagTable net (lagsOf lab.now)) lags.old }
+    ensures out_after { out.new ≡ sets out.old 0 (text_in net (length out.old)) }
+    ensures lags_after { lags.new ≡ holds (value 0) (lag_table net (lags_of lab.now)) lags.old }
 {
     let nodes = net.nodes as usize;
     netlist::put_text(net, out);
@@ -91,7 +91,7 @@ fn put_both(net: Netlist, lab: &[u32], out: &mut [u8], lags: &mut [i32])
 
 // A netlist moved by its least labels and put out, with how many start values were chosen; or 9, 10 or 11.
 fn retime_by(net: Netlist, lab: &[u32], out: &mut [u8], lags: &mut [i32]) -> Answer
-    requires reads { Reads (text_of net) (value 0) net × Labelled net lab.now × LeastLags net (lagsOf lab.now) }
+    requires reads { Reads (text_of net) (value 0) net × Labelled net lab.now × LeastLags net (lags_of lab.now) }
     requires room { Room out.old lags.old net }
     ensures { Leaves (MovedBy net) net out.old lags.old (says result) out.new lags.new }
 {

@@ -1,5 +1,5 @@
 -- What is put back into a lent record.
---   refusal-keeps       after a refusal, what it held
+--   refusal_keeps       after a refusal, what it held
 --   puts_back           an answer that is known, of which it is known what is put back
 use mathlib.Core.Path.{◌≡◌, refl, ap, sym, ◌∙◌}
 use Prim.Native.Nat.{ℕ}
@@ -12,11 +12,11 @@ use Rattle.retimer.specs.Code.{code, Coded}
 use Rattle.retimer.specs.Calls.{put_back}
 
 module _ {A : Type 0} where
-  pub refusal-keeps : (q : ℕ) (p : Place) (found old : A) → old ≡ put_back (says (Refused q p)) found old
-  refusal-keeps q Whole found old = refl
-  refusal-keeps q (Line n) found old = refl
-  refusal-keeps q (Node v) found old = refl
-  refusal-keeps q (Edge e) found old = refl
+  pub refusal_keeps : (q : ℕ) (p : Place) (found old : A) → old ≡ put_back (says (Refused q p)) found old
+  refusal_keeps q Whole found old = refl
+  refusal_keeps q (Line n) found old = refl
+  refusal_keeps q (Node v) found old = refl
+  refusal_keeps q (Edge e) found old = refl
 
   pub puts_back : (P : Said → A → Type 0) (a b : Answer) (found old new : A) {r : ℕ} → a ≡ b → P (says a) found → r ≡ code (says a) → new ≡ put_back (says b) found old
       → Coded (λ s. (x : A) × P s x × (new ≡ put_back s x old)) r

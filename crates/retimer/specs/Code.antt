@@ -7,12 +7,12 @@ use Rattle.netlist.specs.Answer.{Said, value, refused, says}
 use Rattle.netlist.specs.declared.Place.{Place}
 use Rattle.netlist.specs.declared.Answer.TheVariants.{Refused}
 
-abbrev pub placeCode : Said → ℕ
-placeCode (value n) = 0
-placeCode (refused q k p) = k * 65536 + p
+abbrev pub place_code : Said → ℕ
+place_code (value n) = 0
+place_code (refused q k p) = k * 65536 + p
 
 abbrev pub place : Place → ℕ
-place p = placeCode (says (Refused 0 p))
+place p = place_code (says (Refused 0 p))
 
 abbrev pub code : Said → ℕ
 code (value n) = n

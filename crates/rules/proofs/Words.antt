@@ -1,5 +1,5 @@
 -- Words: a word of k bits and its leading zeros.
---   leading-clear       no bit stands at or above the count exactly where enough zeros lead
+--   leading_clear       no bit stands at or above the count exactly where enough zeros lead
 use mathlib.Core.Path.{◌≡◌, sym, ◌∙◌}
 use Prim.Native.Nat.{ℕ, suc, ◌+◌, ◌-◌, ◌*◌, ◌<◌, ◌≤◌, ◌^◌}
 use native.Mathlib.Nat.{lt_of_lt_of_le, lt_of_not-le, pow-suc}
@@ -11,8 +11,8 @@ use lib.Count.{count_leading_zeros, leading_length}
 use lib.Pow.{pow_mono}
 
 -- a word of k bits has k - count leading zeros or more exactly where it is below 2 ^ count
-pub leading-clear : (k a count : ℕ) → a < 2 ^ k → count ≤ k → leb (k - count) (count_leading_zeros k a) ≡ ltb a (2 ^ count)
-leading-clear k a count h g = go (leading_length k a h).0 (leading_length k a h).1 (leading_length k a h).2 (leading_length k a h).3 (dec_le (leading_length k a h).0 count)
+pub leading_clear : (k a count : ℕ) → a < 2 ^ k → count ≤ k → leb (k - count) (count_leading_zeros k a) ≡ ltb a (2 ^ count)
+leading_clear k a count h g = go (leading_length k a h).0 (leading_length k a h).1 (leading_length k a h).2 (leading_length k a h).3 (dec_le (leading_length k a h).0 count)
   where
     -- by whether the length m of a is at most the count
     go : (m : ℕ) → count_leading_zeros k a + m ≡ k → a < 2 ^ m → 2 ^ m ≤ 2 * a + 1 → Dec (m ≤ count) → leb (k - count) (count_leading_zeros k a) ≡ ltb a (2 ^ count)

@@ -3,7 +3,7 @@
 
 ghost use Rattle.std.specs.Prelude.{◌≡◌, ◌^◌, ltb, get_or};
 ghost use Rattle.frame.specs.Frame.{within};
-ghost use Rattle.rules.specs.Rules.{ruleOf, headFits, nodeFits, edgeFits};
+ghost use Rattle.rules.specs.Rules.{rule_of, head_fits, node_fits, edge_fits};
 
 // What a gate kind allows: smallest and largest number of in-edges, smallest and largest delay.
 #[derive(Clone, Copy)]
@@ -87,7 +87,7 @@ const RULES: [Rule; 11] = [
 
 // The table's row; past the last kind, the last row.
 fn rule_of(kind: u8) -> Rule
-    ensures { result ≡ ruleOf kind }
+    ensures { result ≡ rule_of kind }
 {
     if 10 < kind {
         return RULES[10];
@@ -103,7 +103,7 @@ const EDGES: u16 = 1024;
 
 // Rule 2.
 pub fn head_fits(period: u16, derate: u8, nodes: u16, edges: u16) -> bool
-    ensures { result ≡ headFits period derate nodes edges }
+    ensures { result ≡ head_fits period derate nodes edges }
 {
     if period < 1 {
         return false;
@@ -128,7 +128,7 @@ pub fn head_fits(period: u16, derate: u8, nodes: u16, edges: u16) -> bool
 
 // Rule 3.
 pub fn node_fits(kind: u8, delay: u8) -> bool
-    ensures { result ≡ nodeFits kind delay }
+    ensures { result ≡ node_fits kind delay }
 {
     if kind > 10 {
         return false;
@@ -160,7 +160,7 @@ fn kind_at(kinds: &[u8], v: u16) -> u8
 
 // Rule 4. `kinds` are the gate kinds of the nodes.
 pub fn edge_fits(kinds: &[u8], nodes: u16, u: u16, v: u16, count: u8, start: u32) -> bool
-    ensures { result ≡ edgeFits nodes (λ i. get_or kinds.now i 0) u v count start }
+    ensures { result ≡ edge_fits nodes (λ i. get_or kinds.now i 0) u v count start }
 {
     if nodes <= u {
         return false;
@@ -182,7 +182,7 @@ pub fn edge_fits(kinds: &[u8], nodes: u16, u: u16, v: u16, count: u8, start: u32
 
 // Rule 5: whether a node of this kind may have so many in-edges.
 pub fn fan_fits(kind: u8, ins: u16) -> bool
-    ensures { result ≡ within (ruleOf kind).fewest (ruleOf kind).most ins }
+    ensures { result ≡ within (rule_of kind).fewest (rule_of kind).most ins }
 {
     let rule = rule_of(kind);
     if ins < rule.fewest as u16 {

@@ -1,12 +1,12 @@
 -- Choices as numbers, and the bits of the next one.
 --   same_above          choices that agree from place a up agree from every higher place up
 --   half                a place further up is half
---   next-bounds         the next choice is larger, and at most 2 ^ k
---   next-odd            where bit b is 1, a place further gives the same next choice
---   next-half, next-top, next_low   where bit b is 0: the bits above it stay, it turns to 1, those below it are 0
+--   next_bounds         the next choice is larger, and at most 2 ^ k
+--   next_odd            where bit b is 1, a place further gives the same next choice
+--   next_half, next_top, next_low   where bit b is 0: the bits above it stay, it turns to 1, those below it are 0
 --   Advancing           before each turn of `advance`: from place x on the bits are 0, and below they are as they were
---   advancing-turn      one place further, where the bit there is to turn to 0
---   advanced-one, advanced-none     at the end: the 0 before place x turns to 1, if there is one
+--   advancing_turn      one place further, where the bit there is to turn to 0
+--   advanced_one, advanced_none     at the end: the 0 before place x turns to 1, if there is one
 use Prim.Native.Nat.{ℕ, suc, ◌+◌, ◌-◌, ◌*◌, ◌^◌, ◌/◌, ◌%◌, ◌<◌, ◌≤◌}
 use native.Mathlib.Omega.{arith}
 use native.Mathlib.Nat.{mul-le-mul_right, lt-div-mul-add, suc-mul, mul_assoc, pow-suc, pow-succ', div-eq_of_lt}
@@ -20,7 +20,7 @@ use lib.Seq.{get_or-set_same, get_or-set_other}
 use lib.Pow.{pow_pos, pow-add, shr_lt, shr-shr, shl-shr}
 use Rattle.theory.specs.Move.{digit}
 use Rattle.graph.specs.Columns.{at}
-use Rattle.search.specs.inner.States.{nextAfter, ChoiceShown, Advanced}
+use Rattle.search.specs.inner.States.{next_after, ChoiceShown, Advanced}
 
 -- ── The next choice ─────────────────────────────────────────────────────────────────────────
 
@@ -31,8 +31,8 @@ same_above a b c d h e =
     ap (λ m. c / 2 ^ m) z ∙ sym (shr-shr c a n) ∙ ap (λ m. m / 2 ^ n) e ∙ shr-shr d a n ∙ ap (λ m. d / 2 ^ m) (sym z)
 
 -- With j = k − b, c / 2 ^ b is below 2 ^ j.
-pub next-bounds : (c k b : ℕ) → c < 2 ^ k → b ≤ k → (c < nextAfter c b) × (nextAfter c b ≤ 2 ^ k)
-next-bounds c k b h l =
+pub next_bounds : (c k b : ℕ) → c < 2 ^ k → b ≤ k → (c < next_after c b) × (next_after c b ≤ 2 ^ k)
+next_bounds c k b h l =
     let j = k - b in
     let z : k ≡ j + b = omega arith in
     let w : c / 2 ^ b < 2 ^ j = shr_lt j b (subst (λ n. c < 2 ^ n) z h) in
@@ -42,22 +42,22 @@ next-bounds c k b h l =
 pub half : (c b : ℕ) → c / 2 ^ suc b ≡ c / 2 ^ b / 2
 half c b = ap (λ n. c / 2 ^ n) (sym (add-one b)) ∙ sym (shr-shr c b 1)
 
-next-odd : (c b : ℕ) → c / 2 ^ b % 2 ≡ 1 → nextAfter c (suc b) ≡ nextAfter c b
-next-odd c b e =
+next_odd : (c b : ℕ) → c / 2 ^ b % 2 ≡ 1 → next_after c (suc b) ≡ next_after c b
+next_odd c b e =
     let q = c / 2 ^ b in
     let z : suc (q / 2) * 2 ≡ suc q = omega arith in
     ap (λ n. suc n * 2 ^ suc b) (half c b) ∙ ap (λ n. suc (q / 2) * n) (pow-succ' 2 b) ∙ sym (mul_assoc (suc (q / 2)) 2 (2 ^ b)) ∙ ap (λ n. n * 2 ^ b) z
 
-next-half : (c b : ℕ) → c / 2 ^ b % 2 ≡ 0 → nextAfter c b / 2 ^ suc b ≡ c / 2 ^ suc b
-next-half c b e =
+next_half : (c b : ℕ) → c / 2 ^ b % 2 ≡ 0 → next_after c b / 2 ^ suc b ≡ c / 2 ^ suc b
+next_half c b e =
     let q = c / 2 ^ b in
     let z : suc q / 2 ≡ q / 2 = omega arith in
-    half (nextAfter c b) b ∙ ap (λ n. n / 2) (shl-shr (suc q) b) ∙ z ∙ sym (half c b)
+    half (next_after c b) b ∙ ap (λ n. n / 2) (shl-shr (suc q) b) ∙ z ∙ sym (half c b)
 
-next-top : (c b : ℕ) → c / 2 ^ b % 2 ≡ 0 → nextAfter c b / 2 ^ b % 2 ≡ 1
-next-top c b e = let q = c / 2 ^ b in omega (arith, shl-shr (suc q) b)
+next_top : (c b : ℕ) → c / 2 ^ b % 2 ≡ 0 → next_after c b / 2 ^ b % 2 ≡ 1
+next_top c b e = let q = c / 2 ^ b in omega (arith, shl-shr (suc q) b)
 
-next_low : (c b t : ℕ) → t < b → nextAfter c b / 2 ^ t % 2 ≡ 0
+next_low : (c b t : ℕ) → t < b → next_after c b / 2 ^ t % 2 ≡ 0
 next_low c b t h =
     let q = suc (c / 2 ^ b) in
     let d = b - suc t in
@@ -78,12 +78,12 @@ pub record Advancing (k m : ℕ) (old sig : List ℕ) (x : ℕ) : Type 0 where
   pub low : (j : ℕ) → j < x → at sig j ≡ at old j
   pub zeros : (j : ℕ) → x ≤ j → j < k → at sig j ≡ 0
   pub high : (j : ℕ) → k ≤ j → at sig j ≡ at old j
-  pub next : (c : ℕ) → ChoiceShown k c old → x ≤ m → nextAfter c (k - x) ≡ nextAfter c (k - m)
+  pub next : (c : ℕ) → ChoiceShown k c old → x ≤ m → next_after c (k - x) ≡ next_after c (k - m)
 
 module _ {k m : ℕ} {old sig : List ℕ} {x : ℕ} (s : Advancing k m old sig x) (rows : k ≤ length old) where
   -- The bit before place x turns to 0: one from place m on, or a 1.
-  pub advancing-turn : 0 < x → (m < x) ⊎ (at sig (x - 1) ≡ 1) → Advancing k m old (set sig (x - 1) 0) (x - 1)
-  advancing-turn l h = record {
+  pub advancing_turn : 0 < x → (m < x) ⊎ (at sig (x - 1) ≡ 1) → Advancing k m old (set sig (x - 1) 0) (x - 1)
+  advancing_turn l h = record {
     few = omega (arith, s.few);
     size = length-set sig (x - 1) 0 ∙ s.size;
     low = λ j a. get_or-set_other sig (x - 1) j 0 0 (λ e. omega arith) ∙ s.low j (omega arith);
@@ -96,17 +96,17 @@ module _ {k m : ℕ} {old sig : List ℕ} {x : ℕ} (s : Advancing k m old sig x
       cleared j a b (yes e) = ap (at (set sig (x - 1) 0)) e ∙ get_or-set_same sig (x - 1) 0 0 (omega (arith, s.size))
       cleared j a b (no e) = get_or-set_other sig (x - 1) j 0 0 e ∙ s.zeros j (omega arith) b
 
-      go : (c : ℕ) → ChoiceShown k c old → x - 1 ≤ m → (m < x) ⊎ (at sig (x - 1) ≡ 1) → nextAfter c (k - (x - 1)) ≡ nextAfter c (k - m)
-      go c w a (inl b) = let z : x - 1 ≡ m = omega arith in ap (λ n. nextAfter c (k - n)) z
+      go : (c : ℕ) → ChoiceShown k c old → x - 1 ≤ m → (m < x) ⊎ (at sig (x - 1) ≡ 1) → next_after c (k - (x - 1)) ≡ next_after c (k - m)
+      go c w a (inl b) = let z : x - 1 ≡ m = omega arith in ap (λ n. next_after c (k - n)) z
       go c w a (inr b) = one (ℕ_discrete (x - 1) m)
         where
-          one : Dec (x - 1 ≡ m) → nextAfter c (k - (x - 1)) ≡ nextAfter c (k - m)
-          one (yes z) = ap (λ n. nextAfter c (k - n)) z
+          one : Dec (x - 1 ≡ m) → next_after c (k - (x - 1)) ≡ next_after c (k - m)
+          one (yes z) = ap (λ n. next_after c (k - n)) z
           one (no z) =
               let e : k - (x - 1) ≡ suc (k - x) = omega (arith, s.few) in
               let f : k - suc (x - 1) ≡ k - x = omega arith in
               let d : c / 2 ^ (k - x) % 2 ≡ 1 = ap (λ n. c / 2 ^ n % 2) (sym f) ∙ sym (w (x - 1) (omega (arith, s.few))) ∙ sym (s.low (x - 1) (omega arith)) ∙ b in
-              ap (nextAfter c) e ∙ next-odd c (k - x) d ∙ s.next c w (omega arith)
+              ap (next_after c) e ∙ next_odd c (k - x) d ∙ s.next c w (omega arith)
 
   -- ── The end: the bit before place x is 0, or there is none ────────────────────────────────
 
@@ -124,45 +124,45 @@ module _ {k m : ℕ} {old sig : List ℕ} {x : ℕ} (s : Advancing k m old sig x
             bit : ¬ (c / 2 ^ (k - x) % 2 ≡ 1) → c / 2 ^ (k - x) % 2 ≡ 0
             bit q = omega arith
 
-    next-is : nextAfter c (k - m) ≡ nextAfter c (k - x)
-    next-is = sym (s.next c w l)
+    next_is : next_after c (k - m) ≡ next_after c (k - x)
+    next_is = sym (s.next c w l)
 
     -- The bits before the one that turns to 1 stay; those after it are 0.
-    ended-agree : c / 2 ^ (suc k - x) ≡ nextAfter c (k - m) / 2 ^ (suc k - x)
-    ended-agree =
+    ended_agree : c / 2 ^ (suc k - x) ≡ next_after c (k - m) / 2 ^ (suc k - x)
+    ended_agree =
         let z : suc k - x ≡ suc (k - x) = omega (arith, s.few) in
-        rw (z, next-is) (sym (next-half c (k - x) even))
+        rw (z, next_is) (sym (next_half c (k - x) even))
 
-    ended-before : (y : ℕ) → suc y < x → at sig y ≡ digit k (nextAfter c (k - m)) y
-    ended-before y a =
+    ended_before : (y : ℕ) → suc y < x → at sig y ≡ digit k (next_after c (k - m)) y
+    ended_before y a =
         s.low y (omega arith) ∙ w y (omega (arith, s.few))
-        ∙ ap (λ n. n % 2) (same_above (suc k - x) (k - suc y) c (nextAfter c (k - m)) (omega (arith, s.few)) ended-agree)
+        ∙ ap (λ n. n % 2) (same_above (suc k - x) (k - suc y) c (next_after c (k - m)) (omega (arith, s.few)) ended_agree)
 
-    ended-after : (y : ℕ) → x ≤ y → y < k → at sig y ≡ digit k (nextAfter c (k - m)) y
-    ended-after y a b = s.zeros y a b ∙ sym (ap (λ n. n / 2 ^ (k - suc y) % 2) next-is ∙ next_low c (k - x) (k - suc y) (omega arith))
+    ended_after : (y : ℕ) → x ≤ y → y < k → at sig y ≡ digit k (next_after c (k - m)) y
+    ended_after y a b = s.zeros y a b ∙ sym (ap (λ n. n / 2 ^ (k - suc y) % 2) next_is ∙ next_low c (k - x) (k - suc y) (omega arith))
 
-    ended-top : (y : ℕ) → suc y ≡ x → 1 ≡ digit k (nextAfter c (k - m)) y
-    ended-top y e = sym (ap (λ n. nextAfter c (k - m) / 2 ^ (k - n) % 2) e ∙ ap (λ n. n / 2 ^ (k - x) % 2) next-is ∙ next-top c (k - x) even)
+    ended_top : (y : ℕ) → suc y ≡ x → 1 ≡ digit k (next_after c (k - m)) y
+    ended_top y e = sym (ap (λ n. next_after c (k - m) / 2 ^ (k - n) % 2) e ∙ ap (λ n. n / 2 ^ (k - x) % 2) next_is ∙ next_top c (k - x) even)
 
   module _ (l : x ≤ m) (h : 0 < x → ¬ (at sig (x - 1) ≡ 1)) where
-    pub advanced-none : ¬ (0 < x) → Advanced k m old sig x
-    advanced-none q = record {
+    pub advanced_none : ¬ (0 < x) → Advanced k m old sig x
+    advanced_none q = record {
       most = l;
       cells = s.high;
-      bits = λ c u w y a. ended-after l h c u w y (omega arith) a;
-      agree = ended-agree l h;
+      bits = λ c u w y a. ended_after l h c u w y (omega arith) a;
+      agree = ended_agree l h;
     }
 
-    pub advanced-one : 0 < x → Advanced k m old (set sig (x - 1) 1) x
-    advanced-one q = record {
+    pub advanced_one : 0 < x → Advanced k m old (set sig (x - 1) 1) x
+    advanced_one q = record {
       most = l;
       cells = λ j a. get_or-set_other sig (x - 1) j 1 0 (λ e. omega (arith, s.few)) ∙ s.high j a;
       bits = λ c u w y a. go c u w y a (ℕ_discrete y (x - 1)) (dec_lt y x);
-      agree = ended-agree l h;
+      agree = ended_agree l h;
     }
       where
-        go : (c : ℕ) → c < 2 ^ k → ChoiceShown k c old → (y : ℕ) → y < k → Dec (y ≡ x - 1) → Dec (y < x) → at (set sig (x - 1) 1) y ≡ digit k (nextAfter c (k - m)) y
+        go : (c : ℕ) → c < 2 ^ k → ChoiceShown k c old → (y : ℕ) → y < k → Dec (y ≡ x - 1) → Dec (y < x) → at (set sig (x - 1) 1) y ≡ digit k (next_after c (k - m)) y
         go c u w y a (yes e) d =
-            ap (at (set sig (x - 1) 1)) e ∙ get_or-set_same sig (x - 1) 1 0 (omega (arith, s.size, s.few)) ∙ ended-top l h c u w y (omega arith)
-        go c u w y a (no e) (yes d) = get_or-set_other sig (x - 1) y 1 0 e ∙ ended-before l h c u w y (omega arith)
-        go c u w y a (no e) (no d) = get_or-set_other sig (x - 1) y 1 0 e ∙ ended-after l h c u w y (omega arith) a
+            ap (at (set sig (x - 1) 1)) e ∙ get_or-set_same sig (x - 1) 1 0 (omega (arith, s.size, s.few)) ∙ ended_top l h c u w y (omega arith)
+        go c u w y a (no e) (yes d) = get_or-set_other sig (x - 1) y 1 0 e ∙ ended_before l h c u w y (omega arith)
+        go c u w y a (no e) (no d) = get_or-set_other sig (x - 1) y 1 0 e ∙ ended_after l h c u w y (omega arith) a

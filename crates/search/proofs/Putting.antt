@@ -1,19 +1,19 @@
 -- Putting dues in rows: what holds before each turn of the loops.
 --   climb               levels begin in rising order
 --   Onward              to put the rest from p on is to put the whole from n on into the old row
---   onward-size         the row is as long as the old one
---   onward-hit, onward-miss, onward-part    one due further, of the level or of another; one edge's dues further
---   onward-end          when nothing is left
+--   onward_size         the row is as long as the old one
+--   onward_hit, onward_miss, onward_part    one due further, of the level or of another; one edge's dues further
+--   onward_end          when nothing is left
 --   ends_more           rows that follow rows
 --   Rowing              the dues of level m of the edges below e are in their rows
 --   rowing_start        of no edge yet
---   rowing-part, rowing-room, rowing-few    those of the next edge: where they are, that they have places, how many they are
---   rowing-turn         one edge further
+--   rowing_part, rowing_room, rowing_few    those of the next edge: where they are, that they have places, how many they are
+--   rowing_turn         one edge further
 --   Ranking             the dues of the levels below m are in their rows
---   ranking-size, ranking-small     the row is as long as the old one; n is at most the number of dues
---   ranking-room        those of the next level have places
---   ranking-turn        one level further
---   ranking-rows, ranking-same      after the last level
+--   ranking_size, ranking_small     the row is as long as the old one; n is at most the number of dues
+--   ranking_room        those of the next level have places
+--   ranking_turn        one level further
+--   ranking_rows, ranking_same      after the last level
 use Prim.Native.Nat.{ℕ, zero, suc, ◌+◌, ◌-◌, ◌/◌, ◌≤◌, ◌<◌}
 use native.Mathlib.Omega.{arith}
 use native.Mathlib.Decide.{ℕ_discrete, dec_lt}
@@ -24,14 +24,14 @@ use lib.ListN.{length, take, set, length-append, length-set}
 use lib.Seq.{sets, length-sets, get_or-set_same}
 use Rattle.graph.specs.Columns.{at}
 use Rattle.graph.specs.inner.Sort.{Stands}
-use Rattle.theory.proofs.numbers.Stores.{sets-sets}
-use Rattle.graph.proofs.Sets.{sets-at}
-use Rattle.graph.proofs.Fills.{fill-with}
+use Rattle.theory.proofs.numbers.Stores.{sets_sets}
+use Rattle.graph.proofs.Sets.{sets_at}
+use Rattle.graph.proofs.Fills.{fill_with}
 use Rattle.gates.specs.inner.Gates.{part}
 use Rattle.gates.proofs.Words.{part_length}
 use Rattle.search.specs.inner.Program.{Owes}
-use Rattle.search.specs.inner.Rows.{ofLevel, RowsEnd, Rows, SameDues}
-use Rattle.search.proofs.Dues.{part_join, level-none, level-hit, level-miss, level-append, level-few, ranked, ranked-more, ranked-room, ranked-place, ranked-grows, ranked-first, ranked-holds}
+use Rattle.search.specs.inner.Rows.{of_level, RowsEnd, Rows, SameDues}
+use Rattle.search.proofs.Dues.{part_join, level_none, level_hit, level_miss, level_append, level_few, ranked, ranked_more, ranked_room, ranked_place, ranked_grows, ranked_first, ranked_holds}
 
 -- ── Columns ─────────────────────────────────────────────────────────────────────────────────
 
@@ -46,35 +46,35 @@ climb levels many up a (suc b) h l = go (λ q. climb levels many up a b q (omega
 -- ── The dues of one level ───────────────────────────────────────────────────────────────────
 
 pub record Onward (level : List ℕ) (m : ℕ) (whole old : List ℕ) (n : ℕ) (rest row : List ℕ) (p : ℕ) : Type 0 where
-  pub next : p + length (ofLevel level m rest) ≡ n + length (ofLevel level m whole)
-  pub written : sets row p (ofLevel level m rest) ≡ sets old n (ofLevel level m whole)
+  pub next : p + length (of_level level m rest) ≡ n + length (of_level level m whole)
+  pub written : sets row p (of_level level m rest) ≡ sets old n (of_level level m whole)
 
 module _ {level : List ℕ} {m : ℕ} {whole old : List ℕ} {n : ℕ} {rest row : List ℕ} {p : ℕ} (s : Onward level m whole old n rest row p) where
-  pub onward-size : length row ≡ length old
-  onward-size = sym (length-sets row p (ofLevel level m rest)) ∙ ap length s.written ∙ length-sets old n (ofLevel level m whole)
+  pub onward_size : length row ≡ length old
+  onward_size = sym (length-sets row p (of_level level m rest)) ∙ ap length s.written ∙ length-sets old n (of_level level m whole)
 
-  pub onward-hit : {y : ℕ} {ys : List ℕ} → rest ≡ y ∷ ys → at level (y / 2) ≡ m → Onward level m whole old n ys (set row p y) (p + 1)
-  onward-hit {y} {ys} e q =
-      let z = ap (ofLevel level m) e ∙ level-hit level m y ys q in
+  pub onward_hit : {y : ℕ} {ys : List ℕ} → rest ≡ y ∷ ys → at level (y / 2) ≡ m → Onward level m whole old n ys (set row p y) (p + 1)
+  onward_hit {y} {ys} e q =
+      let z = ap (of_level level m) e ∙ level_hit level m y ys q in
       rw (add-one p) (record { next = omega (arith, s.next, ap length z); written = sym (ap (sets row p) z) ∙ s.written })
 
-  pub onward-miss : {y : ℕ} {ys : List ℕ} → rest ≡ y ∷ ys → ¬ (at level (y / 2) ≡ m) → Onward level m whole old n ys row p
-  onward-miss {y} {ys} e q =
-      let z = ap (ofLevel level m) e ∙ level-miss level m y ys q in
+  pub onward_miss : {y : ℕ} {ys : List ℕ} → rest ≡ y ∷ ys → ¬ (at level (y / 2) ≡ m) → Onward level m whole old n ys row p
+  onward_miss {y} {ys} e q =
+      let z = ap (of_level level m) e ∙ level_miss level m y ys q in
       record { next = omega (arith, s.next, ap length z); written = sym (ap (sets row p) z) ∙ s.written }
 
-  pub onward-part : (xs ys : List ℕ) {after : List ℕ} {r : ℕ} → rest ≡ xs ++ ys → after ≡ sets row p (ofLevel level m xs) → r ≡ p + length (ofLevel level m xs)
+  pub onward_part : (xs ys : List ℕ) {after : List ℕ} {r : ℕ} → rest ≡ xs ++ ys → after ≡ sets row p (of_level level m xs) → r ≡ p + length (of_level level m xs)
       → Onward level m whole old n ys after r
-  onward-part xs ys {after} {r} e a b =
-      let z = ap (ofLevel level m) e ∙ level-append level m xs ys in
+  onward_part xs ys {after} {r} e a b =
+      let z = ap (of_level level m) e ∙ level_append level m xs ys in
       record {
         next = omega (arith, s.next, simp length-append at (ap length z));
-        written = ap (λ l. sets l r (ofLevel level m ys)) a ∙ sets-sets (ofLevel level m xs) (ofLevel level m ys) row p r b ∙ sym (ap (sets row p) z) ∙ s.written;
+        written = ap (λ l. sets l r (of_level level m ys)) a ∙ sets_sets (of_level level m xs) (of_level level m ys) row p r b ∙ sym (ap (sets row p) z) ∙ s.written;
       }
 
-  pub onward-end : rest ≡ [] → (row ≡ sets old n (ofLevel level m whole)) × (p ≡ n + length (ofLevel level m whole))
-  onward-end e =
-      let z = ap (ofLevel level m) e ∙ level-none level m in
+  pub onward_end : rest ≡ [] → (row ≡ sets old n (of_level level m whole)) × (p ≡ n + length (of_level level m whole))
+  onward_end e =
+      let z = ap (of_level level m) e ∙ level_none level m in
       (sym (ap (sets row p) z) ∙ s.written, omega (arith, s.next, ap length z))
 
 ends_more : (left after : List ℕ) {a b r : ℕ} → RowsEnd left a b → RowsEnd after b r → ((d : ℕ) → d < b → at after d ≡ at left d) → b ≤ r → RowsEnd after a r
@@ -101,7 +101,7 @@ rowing_start level m due begin edges old kept start e =
     let w : part due (at begin 0) (at begin edges) ≡ take (at begin edges) due = ap (λ x. part due x (at begin edges)) e ∙ ap (λ n. take n due) z in
     record {
       low = omega arith;
-      onward = record { next = ap (λ l. start + length (ofLevel level m l)) w; written = ap (λ l. sets old start (ofLevel level m l)) w };
+      onward = record { next = ap (λ l. start + length (of_level level m l)) w; written = ap (λ l. sets old start (of_level level m l)) w };
       up = omega arith;
       ends = λ d h l. absurd (let y : ⊥ = omega arith in y);
       same = λ d h. refl;
@@ -116,33 +116,33 @@ module _ {level : List ℕ} {m : ℕ} {due begin : List ℕ} {edges : ℕ} {old 
   abbrev hi : ℕ
   hi = at begin (e + 1)
 
-  pub rowing-part : (at begin e ≤ at begin (e + 1)) × (at begin (e + 1) ≤ at begin edges) × (at begin (e + 1) ≤ at begin e + 24)
-  rowing-part =
+  pub rowing_part : (at begin e ≤ at begin (e + 1)) × (at begin (e + 1) ≤ at begin edges) × (at begin (e + 1) ≤ at begin e + 24)
+  rowing_part =
       let z = ap (at begin) (add-one e) in
       let r = o.rising e l in
       (omega (arith, r.0), omega (arith, climb begin edges (λ m h. (o.rising m h).0) (suc e) edges l (omega arith)), omega (arith, r.1))
 
-  rest-join : part due lo (at begin edges) ≡ part due lo hi ++ part due hi (at begin edges)
-  rest-join = part_join due lo hi (at begin edges) rowing-part.0 rowing-part.1
+  rest_join : part due lo (at begin edges) ≡ part due lo hi ++ part due hi (at begin edges)
+  rest_join = part_join due lo hi (at begin edges) rowing_part.0 rowing_part.1
 
-  pub rowing-room : n + length (ofLevel level m (part due (at begin e) (at begin (e + 1)))) ≤ start + length (ofLevel level m (take (at begin edges) due))
-  rowing-room = omega (
+  pub rowing_room : n + length (of_level level m (part due (at begin e) (at begin (e + 1)))) ≤ start + length (of_level level m (take (at begin edges) due))
+  rowing_room = omega (
     arith,
     s.onward.next,
-    simp length-append at (ap length (ap (ofLevel level m) rest-join ∙ level-append level m (part due lo hi) (part due hi (at begin edges)))),
+    simp length-append at (ap length (ap (of_level level m) rest_join ∙ level_append level m (part due lo hi) (part due hi (at begin edges)))),
   )
 
-  pub rowing-few : length (ofLevel level m (part due (at begin e) (at begin (e + 1)))) ≤ 24
-  rowing-few =
-      let r = rowing-part in
-      omega (arith, r.2, level-few level m (part due lo hi), part_length due lo hi (omega (arith, r.1, o.due-rows)))
+  pub rowing_few : length (of_level level m (part due (at begin e) (at begin (e + 1)))) ≤ 24
+  rowing_few =
+      let r = rowing_part in
+      omega (arith, r.2, level_few level m (part due lo hi), part_length due lo hi (omega (arith, r.1, o.due_rows)))
 
-  pub rowing-turn : {after left' : List ℕ} {r : ℕ} → after ≡ sets row n (ofLevel level m (part due (at begin e) (at begin (e + 1))))
-      → r ≡ n + length (ofLevel level m (part due (at begin e) (at begin (e + 1)))) → RowsEnd left' n r → ((d : ℕ) → d < n → at left' d ≡ at left d)
+  pub rowing_turn : {after left' : List ℕ} {r : ℕ} → after ≡ sets row n (of_level level m (part due (at begin e) (at begin (e + 1))))
+      → r ≡ n + length (of_level level m (part due (at begin e) (at begin (e + 1)))) → RowsEnd left' n r → ((d : ℕ) → d < n → at left' d ≡ at left d)
       → length left' ≡ length left → Rowing level m due begin edges old kept start after left' r (e + 1)
-  rowing-turn {after} {left'} {r} a b new stay same = record {
+  rowing_turn {after} {left'} {r} a b new stay same = record {
     low = omega arith;
-    onward = onward-part s.onward (part due lo hi) (part due hi (at begin edges)) rest-join a b;
+    onward = onward_part s.onward (part due lo hi) (part due hi (at begin edges)) rest_join a b;
     up = omega (arith, s.up);
     ends = ends_more left left' s.ends new stay (omega arith);
     same = λ d h. stay d (omega (arith, s.up)) ∙ s.same d h;
@@ -155,39 +155,39 @@ pub record Ranking (level due : List ℕ) (total many : ℕ) (old row : List ℕ
   pub low : m ≤ many
   pub next : n ≡ length (ranked level due total m)
   pub written : row ≡ sets old 0 (ranked level due total m)
-  pub left-size : length left ≡ size
+  pub left_size : length left ≡ size
   pub ends : RowsEnd left 0 n
-  pub rows-size : length rows ≡ 26
+  pub rows_size : length rows ≡ 26
   pub begins : (j : ℕ) → j < m → at rows j ≡ length (ranked level due total j)
 
 module _ {level due : List ℕ} {total many : ℕ} {old row : List ℕ} {size : ℕ} {left rows : List ℕ} {n m : ℕ}
     (s : Ranking level due total many old row size left rows n m) (fits : total ≤ length due) (room : total ≤ length old) (more : many < 26) where
-  pub ranking-size : length row ≡ length old
-  ranking-size = ap length s.written ∙ length-sets old 0 (ranked level due total m)
+  pub ranking_size : length row ≡ length old
+  ranking_size = ap length s.written ∙ length-sets old 0 (ranked level due total m)
 
-  pub ranking-small : n ≤ total
-  ranking-small = omega (arith, s.next, ranked-room level due total fits m)
+  pub ranking_small : n ≤ total
+  ranking_small = omega (arith, s.next, ranked_room level due total fits m)
 
-  pub ranking-room : n + length (ofLevel level m (take total due)) ≤ total
-  ranking-room = omega (arith, s.next, ranked-room level due total fits (suc m), simp length-append at (ap length (ranked-more level due total fits m)))
+  pub ranking_room : n + length (of_level level m (take total due)) ≤ total
+  ranking_room = omega (arith, s.next, ranked_room level due total fits (suc m), simp length-append at (ap length (ranked_more level due total fits m)))
 
-  begins-more : (j : ℕ) → j < m + 1 → at (set rows m n) j ≡ length (ranked level due total j)
-  begins-more = fill-with (λ j v. v ≡ length (ranked level due total j)) rows m n (omega (arith, s.rows-size, s.low)) s.next s.begins
+  begins_more : (j : ℕ) → j < m + 1 → at (set rows m n) j ≡ length (ranked level due total j)
+  begins_more = fill_with (λ j v. v ≡ length (ranked level due total j)) rows m n (omega (arith, s.rows_size, s.low)) s.next s.begins
 
-  pub ranking-turn : {after left' : List ℕ} {r : ℕ} → m < many → after ≡ sets row n (ofLevel level m (take total due))
-      → r ≡ n + length (ofLevel level m (take total due)) → RowsEnd left' n r → ((d : ℕ) → d < n → at left' d ≡ at left d) → length left' ≡ length left
+  pub ranking_turn : {after left' : List ℕ} {r : ℕ} → m < many → after ≡ sets row n (of_level level m (take total due))
+      → r ≡ n + length (of_level level m (take total due)) → RowsEnd left' n r → ((d : ℕ) → d < n → at left' d ≡ at left d) → length left' ≡ length left
       → Ranking level due total many old after size left' (set rows m n) r (m + 1)
-  ranking-turn {after} {left'} {r} l e f new kept same =
-      let z = ranked-more level due total fits m in
-      let b = begins-more in
+  ranking_turn {after} {left'} {r} l e f new kept same =
+      let z = ranked_more level due total fits m in
+      let b = begins_more in
       rw (add-one m) (record {
         low = l;
         next = omega (arith, f, s.next, simp length-append at (ap length z));
-        written = e ∙ ap (λ xs. sets xs n (ofLevel level m (take total due))) s.written
-            ∙ sets-sets (ranked level due total m) (ofLevel level m (take total due)) old 0 n (omega (arith, s.next)) ∙ ap (sets old 0) (sym z);
-        left-size = same ∙ s.left-size;
+        written = e ∙ ap (λ xs. sets xs n (of_level level m (take total due))) s.written
+            ∙ sets_sets (ranked level due total m) (of_level level m (take total due)) old 0 n (omega (arith, s.next)) ∙ ap (sets old 0) (sym z);
+        left_size = same ∙ s.left_size;
         ends = ends_more left left' s.ends new kept (omega arith);
-        rows-size = length-set rows m n ∙ s.rows-size;
+        rows_size = length-set rows m n ∙ s.rows_size;
         begins = λ j h. b j (omega arith);
       })
 
@@ -195,31 +195,31 @@ module _ {level due : List ℕ} {total many : ℕ} {old row : List ℕ} {size : 
     -- What the row holds: the dues of all levels.
     row_at : (d : ℕ) → d < n → at row d ≡ at (ranked level due total m) d
     row_at d h = ap (λ xs. at xs d) s.written
-        ∙ sets-at (ranked level due total m) old d (omega (arith, ranked-room level due total fits m)) (omega (arith, s.next))
+        ∙ sets_at (ranked level due total m) old d (omega (arith, ranked_room level due total fits m)) (omega (arith, s.next))
 
     last : at (set rows many n) many ≡ n
-    last = get_or-set_same rows many n 0 (omega (arith, s.rows-size))
+    last = get_or-set_same rows many n 0 (omega (arith, s.rows_size))
 
-    pub ranking-rows : Rows many level row left (set rows many n)
-    ranking-rows = record {
+    pub ranking_rows : Rows many level row left (set rows many n)
+    ranking_rows = record {
       low = λ j d h l.
-          let b : at (set rows many n) j ≡ length (ranked level due total j) = subst (λ x. at (set rows x n) j ≡ length (ranked level due total j)) e (begins-more j (omega arith)) in
+          let b : at (set rows many n) j ≡ length (ranked level due total j) = subst (λ x. at (set rows x n) j ≡ length (ranked level due total j)) e (begins_more j (omega arith)) in
           let w : d < length (ranked level due total j) = omega (arith, b) in
-          let f = ranked-first level due total fits j m d (omega arith) w in
-          let g : d < n = omega (arith, s.next, ranked-grows level due total fits j m (omega arith)) in
-          subst (λ y. at level (y / 2) < j) (sym (row_at d g ∙ f)) (ranked-place level due total fits j d w).low;
+          let f = ranked_first level due total fits j m d (omega arith) w in
+          let g : d < n = omega (arith, s.next, ranked_grows level due total fits j m (omega arith)) in
+          subst (λ y. at level (y / 2) < j) (sym (row_at d g ∙ f)) (ranked_place level due total fits j d w).low;
       ends = subst (RowsEnd left 0) (sym last) s.ends;
       most = λ j h.
-          let b : at (set rows many n) j ≡ length (ranked level due total j) = subst (λ x. at (set rows x n) j ≡ length (ranked level due total j)) e (begins-more j (omega arith)) in
-          omega (arith, b, last, s.next, ranked-grows level due total fits j m (omega arith));
+          let b : at (set rows many n) j ≡ length (ranked level due total j) = subst (λ x. at (set rows x n) j ≡ length (ranked level due total j)) e (begins_more j (omega arith)) in
+          omega (arith, b, last, s.next, ranked_grows level due total fits j m (omega arith));
     }
 
-    pub ranking-same : ((x : ℕ) → x < total → at level (at due x / 2) < many) → SameDues due total row (at (set rows many n) many)
-    ranking-same keyed = rw last (record {
-      few = ranking-small;
-      sound = λ d h. subst (λ y. Stands due total y) (sym (row_at d h)) (ranked-place level due total fits m d (omega (arith, s.next))).stands;
+    pub ranking_same : ((x : ℕ) → x < total → at level (at due x / 2) < many) → SameDues due total row (at (set rows many n) many)
+    ranking_same keyed = rw last (record {
+      few = ranking_small;
+      sound = λ d h. subst (λ y. Stands due total y) (sym (row_at d h)) (ranked_place level due total fits m d (omega (arith, s.next))).stands;
       complete = λ x h.
-          let t = ranked-holds level due total fits m x h (omega (arith, keyed x h)) in
+          let t = ranked_holds level due total fits m x h (omega (arith, keyed x h)) in
           let w : t.place < n = omega (arith, t.within, s.next) in
           record { place = t.place; within = w; holds = row_at t.place w ∙ t.holds };
     })

@@ -1,6 +1,6 @@
 -- From rows back to what is due.
---   solves-planned      the best list by what the rows hold is the best by what is due
---   plan-of             what the search is given
+--   solves_planned      the best list by what the rows hold is the best by what is due
+--   plan_of             what the search is given
 use Prim.Native.Nat.{ℕ, suc, ◌+◌, ◌^◌, ◌/◌, ◌%◌, ◌<◌, ◌≤◌}
 use native.Mathlib.Omega.{arith}
 use native.Mathlib.Numerals.{add-one}
@@ -16,36 +16,36 @@ use Rattle.search.specs.inner.Rows.{Level, Rows, SameDues}
 use Rattle.search.specs.inner.States.{Plan, RowsPlanned}
 
 module _ (k : ℕ) (P : Program) {due : List ℕ} {total : ℕ} {row : List ℕ} {dues : ℕ} (s : SameDues due total row dues) where
-  due-holds : (c : ℕ) → GivesDues k P row dues c → GivesDues k P due total c
-  due-holds c h x l = let t = s.complete x l in subst (λ y. y % 2 ≡ value_at P k c (y / 2)) t.holds (h t.place t.within)
+  due_holds : (c : ℕ) → GivesDues k P row dues c → GivesDues k P due total c
+  due_holds c h x l = let t = s.complete x l in subst (λ y. y % 2 ≡ value_at P k c (y / 2)) t.holds (h t.place t.within)
 
-  row-holds : (c : ℕ) → GivesDues k P due total c → GivesDues k P row dues c
-  row-holds c h d l = let t = s.sound d l in subst (λ y. y % 2 ≡ value_at P k c (y / 2)) t.holds (h t.place t.within)
+  row_holds : (c : ℕ) → GivesDues k P due total c → GivesDues k P row dues c
+  row_holds c h d l = let t = s.sound d l in subst (λ y. y % 2 ≡ value_at P k c (y / 2)) t.holds (h t.place t.within)
 
-  solves-same : (fill : List ℕ) (found : Bool) (c : ℕ) → Solves k P row dues fill found c → Solves k P due total fill found c
-  solves-same fill true c r = (r.0, (due-holds (c % 2 ^ k) r.1.0, r.1.1), λ d l p w. r.2 d l p (row-holds (d % 2 ^ k) w.0, w.1))
-  solves-same fill false c r = λ d l w. r d l (row-holds (d % 2 ^ k) w.0, w.1)
+  solves_same : (fill : List ℕ) (found : Bool) (c : ℕ) → Solves k P row dues fill found c → Solves k P due total fill found c
+  solves_same fill true c r = (r.0, (due_holds (c % 2 ^ k) r.1.0, r.1.1), λ d l p w. r.2 d l p (row_holds (d % 2 ^ k) w.0, w.1))
+  solves_same fill false c r = λ d l w. r d l (row_holds (d % 2 ^ k) w.0, w.1)
 
-pub solves-planned : {s : Size} {due begin level row left : List ℕ} {e : Extent} → RowsPlanned s due begin level row left e
+pub solves_planned : {s : Size} {due begin level row left : List ℕ} {e : Extent} → RowsPlanned s due begin level row left e
     → (P : Program) (fill : List ℕ) (found : Bool) (c : ℕ) → Solves e.bits P row e.dues fill found c → Solves s.bits P due (at begin s.edges) fill found c
-solves-planned {s} {row = row} {e = e} p P fill found c r = solves-same s.bits P p.same fill found c (subst (λ b. Solves b P row e.dues fill found c) p.bits r)
+solves_planned {s} {row = row} {e = e} p P fill found c r = solves_same s.bits P p.same fill found c (subst (λ b. Solves b P row e.dues fill found c) p.bits r)
 
-pub plan-of : {e : Extent} {P : Program} {level due : List ℕ} {total : ℕ} {row left : List ℕ}
+pub plan_of : {e : Extent} {P : Program} {level due : List ℕ} {total : ℕ} {row left : List ℕ}
     → e.limit ≡ 2 ^ e.bits → RightProgram e.cells e.bits P → Levelled e.cells e.bits P e.levels
     → ((x : ℕ) → x < total → at due x / 2 < e.cells) → total ≤ 24576 → e.cells ≤ length level
     → ((i : ℕ) → i < e.cells → Level e.levels (e.bits + 1) i (at level i))
     → total ≤ length row → total ≤ length left → suc e.bits < length e.rows → at e.rows (suc e.bits) ≡ e.dues
     → Rows (e.bits + 1) level row left e.rows → SameDues due total row e.dues → Plan e P level row left
-plan-of {e} {level = level} limit f v asks few size own row_room left-room many whole r t = record {
+plan_of {e} {level = level} limit f v asks few size own row_room left-room many whole r t = record {
   limit = limit;
   program = f;
   levelled = v;
-  level-rows = size;
-  level-of = rw (add-one e.bits) at own;
-  row-rows = omega (arith, t.few);
-  left-rows = omega (arith, t.few);
-  few-dues = omega (arith, t.few);
-  rows-rows = many;
+  level_rows = size;
+  level_of = rw (add-one e.bits) at own;
+  row_rows = omega (arith, t.few);
+  left_rows = omega (arith, t.few);
+  few_dues = omega (arith, t.few);
+  rows_rows = many;
   whole = whole;
   cell = λ d h. let y = t.sound d h in subst (λ x. x / 2 < e.cells) y.holds (asks y.place y.within);
   in_rows = rw (add-one e.bits) at r;

@@ -1,18 +1,18 @@
 -- The search, turn by turn.
---   truth-next          the truth word of the next cell
---   valued-seen         the next cell can be evaluated
---   valued-value        what its gate gives is its value
---   valued-more         with that the cells are evaluated one further
+--   truth_next          the truth word of the next cell
+--   valued_seen         the next cell can be evaluated
+--   valued_value        what its gate gives is its value
+--   valued_more         with that the cells are evaluated one further
 --   Searching best c p sig d     the search's state: the lists of the choices below c are tried, the cells below p are evaluated under c, the first d dues agree with c
---   searching-on        more cells are evaluated
---   searching-turn      one due further, where it agrees
---   searching-jump      a later choice
---   searching-drop      the next choice that is not dropped with this one, where a due does not agree
---   searching-next      the next choice, where all agree
---   searching-found, searching-none   the best list is found: one whose fillings are all 0, or all choices are tried
+--   searching_on        more cells are evaluated
+--   searching_turn      one due further, where it agrees
+--   searching_jump      a later choice
+--   searching_drop      the next choice that is not dropped with this one, where a due does not agree
+--   searching_next      the next choice, where all agree
+--   searching_found, searching_none   the best list is found: one whose fillings are all 0, or all choices are tried
 -- Why a jump is right: it skips choices that agree with the dropped one on all bits on which the wrong cell depends, so they give it the same wrong
 -- value (`dead`). The new choice agrees with the dropped one on the bits on which the cells below the first changed level depend: these keep their
--- values (`jump-keeps`), and what was due of them agrees still. They and their dues were all looked at before the wrong one, whose level is no lower.
+-- values (`jump_keeps`), and what was due of them agrees still. They and their dues were all looked at before the wrong one, whose level is no lower.
 use Prim.Native.Nat.{ℕ, suc, ◌+◌, ◌-◌, ◌^◌, ◌/◌, ◌%◌, ◌<◌, ◌≤◌}
 use native.Mathlib.Omega.{arith}
 use native.Mathlib.Nat.{div-eq_of_lt-le, div-mul-le_self, mod-eq_of_lt, mod-le}
@@ -30,66 +30,66 @@ use Rattle.gates.specs.inner.Gates.{part, Reckons, InputRows}
 use Rattle.search.specs.declared.Choice.{Choice}
 use Rattle.search.specs.declared.choices.Extent.{Extent}
 use Rattle.search.specs.declared.choices.Turn.{Turn}
-use Rattle.search.specs.inner.Program.{Program, look, valuesTo, value_at, GivesDues, Fillable, Solves}
+use Rattle.search.specs.inner.Program.{Program, look, values_to, value_at, GivesDues, Fillable, Solves}
 use Rattle.search.specs.inner.Rows.{Level}
-use Rattle.search.specs.inner.States.{Evaluator, programIn, Executable, Valued, nextAfter, Jumped, ListOf, Better, Plan}
+use Rattle.search.specs.inner.States.{Evaluator, program_in, Executable, Valued, next_after, Jumped, ListOf, Better, Plan}
 use Rattle.search.proofs.Putting.{climb}
-use Rattle.search.proofs.Next.{next-bounds}
-use Rattle.search.proofs.Values.{part_same, look-bit, look-cell, values-at, value-gate, operand-bit, agree}
-use Rattle.search.proofs.Lists.{prefers-low, prefers-through, list-fulfils, list-least, Tried, tried-on, tried-more, tried-end}
+use Rattle.search.proofs.Next.{next_bounds}
+use Rattle.search.proofs.Values.{part_same, look_bit, look_cell, values_at, value_gate, operand_bit, agree}
+use Rattle.search.proofs.Lists.{prefers_low, prefers_through, list_fulfils, list_least, Tried, tried_on, tried_more, tried_end}
 
 -- ── Cells ───────────────────────────────────────────────────────────────────────────────────
 
-pub truth-next : {cells k : ℕ} {kind : List ℕ} {E : Evaluator} {i : ℕ} → Executable cells k kind E → i < cells
+pub truth_next : {cells k : ℕ} {kind : List ℕ} {E : Evaluator} {i : ℕ} → Executable cells k kind E → i < cells
     → Reckons (at kind i) (at E.first (i + 1) - at E.first i) (at E.truth i)
-truth-next {i = i} r l = rw (add-one i) (r.truths i l)
+truth_next {i = i} r l = rw (add-one i) (r.truths i l)
 
-module _ {cells k : ℕ} {kind : List ℕ} {E : Evaluator} {c p : ℕ} {sig : List ℕ} (r : Executable cells k kind E) (s : Valued cells k (programIn E kind) c p sig)
+module _ {cells k : ℕ} {kind : List ℕ} {E : Evaluator} {c p : ℕ} {sig : List ℕ} (r : Executable cells k kind E) (s : Valued cells k (program_in E kind) c p sig)
     (l : p < cells) where
   -- An operand is a bit, or a cell before.
-  signal : (j : ℕ) → at E.first p ≤ j → j < at E.first (suc p) → at sig (at E.operand j) ≡ look k c (valuesTo (programIn E kind) k c p) (at E.operand j)
+  signal : (j : ℕ) → at E.first p ≤ j → j < at E.first (suc p) → at sig (at E.operand j) ≡ look k c (values_to (program_in E kind) k c p) (at E.operand j)
   signal j a b = go (r.program.earlier p j l a b)
     where
-      go : (at E.operand j < k) ⊎ ((32 ≤ at E.operand j) × (at E.operand j < 32 + p)) → at sig (at E.operand j) ≡ look k c (valuesTo (programIn E kind) k c p) (at E.operand j)
-      go (inl w) = s.bits (at E.operand j) w ∙ sym (look-bit k c _ (at E.operand j) (omega (arith, r.program.few_bits)))
+      go : (at E.operand j < k) ⊎ ((32 ≤ at E.operand j) × (at E.operand j < 32 + p)) → at sig (at E.operand j) ≡ look k c (values_to (program_in E kind) k c p) (at E.operand j)
+      go (inl w) = s.bits (at E.operand j) w ∙ sym (look_bit k c _ (at E.operand j) (omega (arith, r.program.few_bits)))
       go (inr w) =
           let m = at E.operand j - 32 in
           let z : at E.operand j ≡ 32 + m = omega arith in
           ap (at sig) z
           ∙ s.values m (omega arith)
-          ∙ sym (values-at (programIn E kind) k c p m (omega arith))
-          ∙ sym (look-cell k c _ (at E.operand j) w.0)
+          ∙ sym (values_at (program_in E kind) k c p m (omega arith))
+          ∙ sym (look_cell k c _ (at E.operand j) w.0)
 
-  pub valued-seen : InputRows (at E.truth p) E.operand (at E.first p) (at E.first (p + 1)) sig
-  valued-seen = rw (add-one p) (record {
+  pub valued_seen : InputRows (at E.truth p) E.operand (at E.first p) (at E.first (p + 1)) sig
+  valued_seen = rw (add-one p) (record {
     up = r.program.rising p l;
     in_list = r.program.in_rows p l;
     narrow = (r.truths p l).narrow;
     signals = λ j a b. (
       ⊎_elim
           (λ (w : at E.operand j < k). omega (arith, s.size, r.program.few_bits))
-          (λ (w : (32 ≤ at E.operand j) × (at E.operand j < 32 + p)). omega (arith, s.size, r.program.few-cells))
+          (λ (w : (32 ≤ at E.operand j) × (at E.operand j < 32 + p)). omega (arith, s.size, r.program.few_cells))
           (r.program.earlier p j l a b),
-      rw (signal j a b) (operand-bit r.program c p j l a b),
+      rw (signal j a b) (operand_bit r.program c p j l a b),
     );
   })
 
-  pub valued-value : {x : ℕ} → x ≡ gate (at kind p) (map (at sig) (part E.operand (at E.first p) (at E.first (p + 1)))) → x ≡ value_at (programIn E kind) k c p
-  valued-value e =
+  pub valued_value : {x : ℕ} → x ≡ gate (at kind p) (map (at sig) (part E.operand (at E.first p) (at E.first (p + 1)))) → x ≡ value_at (program_in E kind) k c p
+  valued_value e =
       (rw (add-one p) at e)
       ∙ ap (gate (at kind p)) (part_same (at sig) _ E.operand (at E.first p) (at E.first (suc p)) (r.program.in_rows p l) signal)
-      ∙ sym (value-gate (programIn E kind) k c p)
+      ∙ sym (value_gate (program_in E kind) k c p)
 
-  pub valued-more : {x : ℕ} → x ≡ value_at (programIn E kind) k c p → Valued cells k (programIn E kind) c (p + 1) (set sig (32 + p) x)
-  valued-more {x} e = record {
+  pub valued_more : {x : ℕ} → x ≡ value_at (program_in E kind) k c p → Valued cells k (program_in E kind) c (p + 1) (set sig (32 + p) x)
+  valued_more {x} e = record {
     size = omega (arith, length-set sig (32 + p) x, s.size);
     few = omega arith;
     bits = λ y h. get_or-set_other sig (32 + p) y x 0 (λ z. omega (arith, r.program.few_bits)) ∙ s.bits y h;
     values = λ i h. go i h (ℕ_discrete i p);
   }
     where
-      go : (i : ℕ) → i < p + 1 → Dec (i ≡ p) → at (set sig (32 + p) x) (32 + i) ≡ value_at (programIn E kind) k c i
-      go i h (yes z) = rw z (get_or-set_same sig (32 + p) x 0 (omega (arith, s.size, r.program.few-cells)) ∙ e)
+      go : (i : ℕ) → i < p + 1 → Dec (i ≡ p) → at (set sig (32 + p) x) (32 + i) ≡ value_at (program_in E kind) k c i
+      go i h (yes z) = rw z (get_or-set_same sig (32 + p) x 0 (omega (arith, s.size, r.program.few_cells)) ∙ e)
       go i h (no z) = get_or-set_other sig (32 + p) (32 + i) x 0 (λ y. z (omega arith)) ∙ s.values i (omega arith)
 
 -- ── Choices ─────────────────────────────────────────────────────────────────────────────────
@@ -106,18 +106,18 @@ climbs {e} g = climb e.levels (suc e.bits) (λ n h. g.levelled.climbs n (omega a
 
 module _ {e : Extent} {P : Program} {level row left fill : List ℕ} (g : Plan e P level row left) where
   module _ {best : Choice} {c p : ℕ} {sig : List ℕ} {d : ℕ} (s : Searching e P row fill best c p sig d) where
-    pub searching-on : {q : ℕ} {after : List ℕ} → Valued e.cells e.bits P c q after → Searching e P row fill best c q after d
-    searching-on v = record { limit = s.limit; tried = s.tried; valued = v; few = s.few; agreed = s.agreed }
+    pub searching_on : {q : ℕ} {after : List ℕ} → Valued e.cells e.bits P c q after → Searching e P row fill best c q after d
+    searching_on v = record { limit = s.limit; tried = s.tried; valued = v; few = s.few; agreed = s.agreed }
 
-    pub searching-none : 2 ^ e.bits ≤ c → Solves e.bits P row e.dues fill best.found best.choice
-    searching-none h = tried-end s.tried (λ d l. absurd (let y : ⊥ = omega (arith, pow_pos e.bits) in y))
+    pub searching_none : 2 ^ e.bits ≤ c → Solves e.bits P row e.dues fill best.found best.choice
+    searching_none h = tried_end s.tried (λ d l. absurd (let y : ⊥ = omega (arith, pow_pos e.bits) in y))
 
     -- A later choice: a jump from level m, where the cells and the dues below the first changed level were looked at.
     module _ {m : ℕ} (low : m ≤ e.bits) (small : c < 2 ^ e.bits) {after : List ℕ} {t : Turn} (j : Jumped c e.bits m e.levels e.rows sig after t) where
       module _ (early : at e.levels j.level ≤ p) (before : at e.rows j.level ≤ d) where
         -- Cells that depend on unchanged bits alone.
-        jump-keeps : (n : ℕ) → n < at e.levels j.level → value_at P e.bits c n ≡ value_at P e.bits t.choice n
-        jump-keeps n h = go (ℕ_discrete j.level 0)
+        jump_keeps : (n : ℕ) → n < at e.levels j.level → value_at P e.bits c n ≡ value_at P e.bits t.choice n
+        jump_keeps n h = go (ℕ_discrete j.level 0)
           where
             go : Dec (j.level ≡ 0) → value_at P e.bits c n ≡ value_at P e.bits t.choice n
             go (yes z) = absurd (let y : ⊥ = omega (arith, ap (at e.levels) z, g.levelled.none) in y)
@@ -127,31 +127,31 @@ module _ {e : Extent} {P : Program} {level row left fill : List ℕ} (g : Plan e
                 let f : suc e.bits - j.level ≡ e.bits - y = omega (arith, j.most) in
                 agree g.program g.levelled c t.choice y (omega (arith, j.most)) (rw f at j.agree) n (rw q h)
 
-        due-low : (x : ℕ) → x < at e.rows j.level → at row x / 2 < at e.levels j.level
-        due-low x h =
+        due_low : (x : ℕ) → x < at e.rows j.level → at row x / 2 < at e.levels j.level
+        due_low x h =
             let i = at row x / 2 in
             let w = g.in_rows.low j.level x (omega (arith, j.most)) h in
-            omega (arith, (g.level-of i (g.cell x (omega (arith, before, s.few)))).below, climbs g (suc (at level i)) j.level w (omega (arith, j.most)))
+            omega (arith, (g.level_of i (g.cell x (omega (arith, before, s.few)))).below, climbs g (suc (at level i)) j.level w (omega (arith, j.most)))
 
-        pub searching-jump : {next : Choice} → length after ≡ length sig → Tried e.bits P row e.dues fill (nextAfter c (e.bits - m)) next
+        pub searching_jump : {next : Choice} → length after ≡ length sig → Tried e.bits P row e.dues fill (next_after c (e.bits - m)) next
             → Searching e P row fill next t.choice t.cell after t.due
-        searching-jump {next} n tried = rw (j.cell_at, j.due-at) (record {
-          limit = omega (arith, j.next, (next-bounds c e.bits (e.bits - m) small (omega arith)).1);
+        searching_jump {next} n tried = rw (j.cell_at, j.due_at) (record {
+          limit = omega (arith, j.next, (next_bounds c e.bits (e.bits - m) small (omega arith)).1);
           tried = subst (λ b. Tried e.bits P row e.dues fill b next) (sym j.next) tried;
           valued = record {
             size = omega (arith, n, s.valued.size);
             few = omega (arith, climbs g j.level (suc e.bits) (omega (arith, j.most)) (omega arith), g.levelled.whole);
             bits = j.bits;
-            values = λ i h. j.cells (32 + i) (omega (arith, g.program.few_bits)) ∙ s.valued.values i (omega (arith, early)) ∙ jump-keeps i h;
+            values = λ i h. j.cells (32 + i) (omega (arith, g.program.few_bits)) ∙ s.valued.values i (omega (arith, early)) ∙ jump_keeps i h;
           };
           few = omega (arith, before, s.few);
-          agreed = λ x h. s.agreed x (omega (arith, before)) ∙ jump-keeps (at row x / 2) (due-low x h);
+          agreed = λ x h. s.agreed x (omega (arith, before)) ∙ jump_keeps (at row x / 2) (due_low x h);
         })
 
     -- The due whose turn it is asks a cell that is evaluated.
     module _ (l : d < e.dues) (u : at row d / 2 < p) where
-      pub searching-turn : at sig (32 + at row d / 2) ≡ at row d % 2 → Searching e P row fill best c p sig (d + 1)
-      searching-turn q = record {
+      pub searching_turn : at sig (32 + at row d / 2) ≡ at row d % 2 → Searching e P row fill best c p sig (d + 1)
+      searching_turn q = record {
         limit = s.limit;
         tried = s.tried;
         valued = s.valued;
@@ -165,21 +165,21 @@ module _ {e : Extent} {P : Program} {level row left fill : List ℕ} (g : Plan e
 
       module _ (wrong : ¬ (at sig (32 + at row d / 2) ≡ at row d % 2)) where
         own : Level e.levels (suc e.bits) (at row d / 2) (at level (at row d / 2))
-        own = g.level-of (at row d / 2) (g.cell d l)
+        own = g.level_of (at row d / 2) (g.cell d l)
 
-        dead : (n : ℕ) → c ≤ n → n < nextAfter c (e.bits - at level (at row d / 2)) → ¬ GivesDues e.bits P row e.dues n
+        dead : (n : ℕ) → c ≤ n → n < next_after c (e.bits - at level (at row d / 2)) → ¬ GivesDues e.bits P row e.dues n
         dead n h k holds =
             let i = at row d / 2 in
             let b = e.bits - at level i in
             let z : n / 2 ^ b ≡ c / 2 ^ b = div-eq_of_lt-le (2 ^ b) (omega (arith, div-mul-le_self c (2 ^ b))) (rw add-one k) in
             wrong (s.valued.values i u ∙ sym (holds d l ∙ agree g.program g.levelled n c (at level i) (omega (arith, own.few)) z i own.below))
 
-        pub searching-drop : c < 2 ^ e.bits → {after : List ℕ} {t : Turn} → Jumped c e.bits (at level (at row d / 2)) e.levels e.rows sig after t
+        pub searching_drop : c < 2 ^ e.bits → {after : List ℕ} {t : Turn} → Jumped c e.bits (at level (at row d / 2)) e.levels e.rows sig after t
             → length after ≡ length sig → Searching e P row fill best t.choice t.cell after t.due
-        searching-drop small {after} {t} j n =
-            searching-jump (omega (arith, own.few)) small j
+        searching_drop small {after} {t} j n =
+            searching_jump (omega (arith, own.few)) small j
             (omega (arith, climbs g j.level (at level (at row d / 2)) j.most (omega (arith, own.few)), own.from))
-            (before (dec_lt d (at e.rows j.level))) n (tried-on s.tried _ dead)
+            (before (dec_lt d (at e.rows j.level))) n (tried_on s.tried _ dead)
           where
             before : Dec (d < at e.rows j.level) → at e.rows j.level ≤ d
             before (yes q) = absurd (let y : ⊥ = omega (arith, g.in_rows.low j.level d (omega (arith, j.most, own.few)) q, j.most) in y)
@@ -188,22 +188,22 @@ module _ {e : Extent} {P : Program} {level row left fill : List ℕ} (g : Plan e
     -- All dues agree, and all cells are evaluated.
     module _ (a : Fillable e.cells e.bits fill) (all : e.dues ≤ d) (whole : e.cells ≤ p) {list : ℕ} (o : ListOf e.bits fill sig c list)
         {after : Choice} (b : Better best list after) where
-      tried-own : Tried e.bits P row e.dues fill (suc c) after
-      tried-own = tried-more s.tried b o.few (list-fulfils a s.valued whole o row e.dues (λ x h. s.agreed x (omega arith))) (list-least a s.valued whole o)
+      tried_own : Tried e.bits P row e.dues fill (suc c) after
+      tried_own = tried_more s.tried b o.few (list_fulfils a s.valued whole o row e.dues (λ x h. s.agreed x (omega arith))) (list_least a s.valued whole o)
 
-      pub searching-next : c < 2 ^ e.bits → {new : List ℕ} {t : Turn} → Jumped c e.bits e.bits e.levels e.rows sig new t → length new ≡ length sig
+      pub searching_next : c < 2 ^ e.bits → {new : List ℕ} {t : Turn} → Jumped c e.bits e.bits e.levels e.rows sig new t → length new ≡ length sig
           → Searching e P row fill after t.choice t.cell new t.due
-      searching-next small j n =
-          searching-jump (omega arith) small j
+      searching_next small j n =
+          searching_jump (omega arith) small j
           (omega (arith, climbs g j.level (suc e.bits) (omega (arith, j.most)) (omega arith), g.levelled.whole))
           (omega (arith, g.in_rows.most j.level (omega (arith, j.most)), g.whole)) n
-          (subst (λ x. Tried e.bits P row e.dues fill x after) next tried-own)
+          (subst (λ x. Tried e.bits P row e.dues fill x after) next tried_own)
         where
-          next : suc c ≡ nextAfter c (e.bits - e.bits)
+          next : suc c ≡ next_after c (e.bits - e.bits)
           next = let z : e.bits - e.bits ≡ 0 = omega arith in rw z (omega arith)
 
       -- No later list is preferred to one whose fillings are all 0.
-      pub searching-found : list < 2 ^ e.bits → Solves e.bits P row e.dues fill after.found after.choice
-      searching-found h =
-          tried-end tried-own
-          (λ d l. (b.found, prefers-through d list after.choice (prefers-low list d (omega (arith, o.choice, mod-eq_of_lt h, mod-le d (2 ^ e.bits)))) b.over_list))
+      pub searching_found : list < 2 ^ e.bits → Solves e.bits P row e.dues fill after.found after.choice
+      searching_found h =
+          tried_end tried_own
+          (λ d l. (b.found, prefers_through d list after.choice (prefers_low list d (omega (arith, o.choice, mod-eq_of_lt h, mod-le d (2 ^ e.bits)))) b.over_list))

@@ -6,7 +6,7 @@ ghost use Rattle.std.specs.Prelude.{◌≡◌, ℕ, ◌↔◌, ◌+◌, ◌-◌,
 ghost use Rattle.theory.specs.Move.{Prefers};
 ghost use Rattle.graph.specs.Columns.{at};
 ghost use Rattle.search.specs.inner.Program.{program_of, Fillable, Solves};
-ghost use Rattle.search.specs.inner.States.{nextAfter, ChoiceShown, evaluatorOf, CanEvaluate, EvaluatedTo, Advanced, Jumped, ListOf, Better, Plan, Fresh};
+ghost use Rattle.search.specs.inner.States.{next_after, ChoiceShown, evaluator_of, CanEvaluate, EvaluatedTo, Advanced, Jumped, ListOf, Better, Plan, Fresh};
 
 use crate::Choice;
 use gates::{index_table, put_truths, value};
@@ -54,8 +54,8 @@ fn evaluate(
     end: usize,
     sig: &mut [u8],
 ) -> usize
-    requires { CanEvaluate (evaluatorOf truth.now index.now first.now operand.now) start end sig.old }
-    ensures { EvaluatedTo (evaluatorOf truth.now index.now first.now operand.now)
+    requires { CanEvaluate (evaluator_of truth.now index.now first.now operand.now) start end sig.old }
+    ensures { EvaluatedTo (evaluator_of truth.now index.now first.now operand.now)
         start end sig.old sig.new result }
 {
     let mut i = start;
@@ -71,7 +71,7 @@ fn evaluate(
 // The first choice that differs from this one in a bit from place b up.
 fn next_after(choice: u32, b: u32) -> u32
     requires { (choice < 2 ^ 24) × (b ≤ 24) }
-    ensures { result ≡ nextAfter choice b }
+    ensures { result ≡ next_after choice b }
 {
     ((choice >> b) + 1) << b
 }

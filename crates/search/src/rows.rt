@@ -5,7 +5,7 @@ ghost use Rattle.std.proofs.lemmas.List.Edits.{sets};
 ghost use Rattle.graph.specs.Columns.{at};
 ghost use Rattle.gates.specs.inner.Gates.{part};
 ghost use Rattle.search.specs.inner.Program.{Owes};
-ghost use Rattle.search.specs.inner.Rows.{Level, ofLevel, RowsEnd, Rows, SameDues};
+ghost use Rattle.search.specs.inner.Rows.{Level, of_level, RowsEnd, Rows, SameDues};
 
 // The level of each cell.
 pub fn levels_of(levels: &[u16], many: usize, level: &mut [u8])
@@ -36,9 +36,9 @@ fn put_row(
     n: usize,
 ) -> usize
     requires start_le_end { (start ≤ end) × (end ≤ length due.now) × ((x : ℕ) → x < end → at due.now x / 2 < length level.now) }
-    requires end_in_bounds { n + length (ofLevel level.now m (part due.now start end)) ≤ length row.old }
-    ensures row_after { row.new ≡ sets row.old n (ofLevel level.now m (part due.now start end)) }
-    ensures value { result ≡ n + length (ofLevel level.now m (part due.now start end)) }
+    requires end_in_bounds { n + length (of_level level.now m (part due.now start end)) ≤ length row.old }
+    ensures row_after { row.new ≡ sets row.old n (of_level level.now m (part due.now start end)) }
+    ensures value { result ≡ n + length (of_level level.now m (part due.now start end)) }
 {
     let mut at = n;
     let mut x = start;
@@ -77,11 +77,11 @@ fn put_level(
     start: usize,
 ) -> usize
     requires owes { Owes (length level.now) due.now begin.now edges }
-    requires due_in_bounds { start + length (ofLevel level.now m (take (at begin.now edges) due.now)) ≤ length row.old }
-    requires due_in_bounds_2 { start + length (ofLevel level.now m (take (at begin.now edges) due.now)) ≤ length left.old }
+    requires due_in_bounds { start + length (of_level level.now m (take (at begin.now edges) due.now)) ≤ length row.old }
+    requires due_in_bounds_2 { start + length (of_level level.now m (take (at begin.now edges) due.now)) ≤ length left.old }
     ensures row_after { row.new
-        ≡ sets row.old start (ofLevel level.now m (take (at begin.now edges) due.now)) }
-    ensures value { result ≡ start + length (ofLevel level.now m (take (at begin.now edges) due.now)) }
+        ≡ sets row.old start (of_level level.now m (take (at begin.now edges) due.now)) }
+    ensures value { result ≡ start + length (of_level level.now m (take (at begin.now edges) due.now)) }
     ensures rows_end { RowsEnd left.new start result × ((d : ℕ) → d < start → at left.new d ≡ at left.old d) }
 {
     let mut n = start;

@@ -1,7 +1,7 @@
 -- One clock of the code is one clock of the paper: evaluated in the order of a plan, each node has its value.
---   plan-evaluable, plan-truths    the columns of a plan can be evaluated; each node has a truth word of its kind
---   Right, right-more          the signals of the inputs, of the plan's first n nodes and of the registers are right; one node more
---   right-values               after all of them, each node's signal is its value
+--   plan_evaluable, plan_truths    the columns of a plan can be evaluated; each node has a truth word of its kind
+--   Right, right_more          the signals of the inputs, of the plan's first n nodes and of the registers are right; one node more
+--   right_values               after all of them, each node's signal is its value
 use Prim.Native.Nat.{ℕ, zero, suc, ◌+◌, ◌<◌, ◌≤◌}
 use native.Mathlib.Omega.{arith}
 use native.Mathlib.Decide.{ℕ_discrete}
@@ -14,17 +14,17 @@ use lib.ListN.{length, set}
 use lib.Seq.{get_or-set_same, get_or-set_other}
 use borrow.Author.Tests.{eq-eqb, ne_eqb}
 use Rattle.theory.specs.Gate.{gate}
-use Rattle.theory.proofs.clocks.Seen.{gather-map, gather-same}
+use Rattle.theory.proofs.clocks.Seen.{gather_map, gather_same}
 use Rattle.graph.specs.Columns.{at, bit}
 use Rattle.gates.specs.inner.Gates.{part, AllBits, evaluated, GateRows, Evaluable, Truths}
-use Rattle.gates.proofs.Row.{evaluated-length}
+use Rattle.gates.proofs.Row.{evaluated_length}
 use Rattle.netlist.specs.declared.Netlist.{Netlist}
-use Rattle.netlist.proofs.Run.{fit-wired, fit-rows}
+use Rattle.netlist.proofs.Run.{fit_wired, fit_rows}
 use Rattle.simulate.specs.declared.plan.Plan.{Plan}
 use Rattle.simulate.specs.Clock.{values}
 use Rattle.simulate.specs.inner.Plan.{signal, Planned}
 use Rattle.simulate.specs.inner.Ran.{Steppable}
-use Rattle.simulate.proofs.Clock.{shown, shown-none, shown-some, value-gate}
+use Rattle.simulate.proofs.Clock.{shown, shown_none, shown_some, value_gate}
 
 -- The columns of a plan, as long as they are in its record.
 pub record Rows (p : Plan) : Type 0 where
@@ -37,36 +37,36 @@ pub record Rows (p : Plan) : Type 0 where
 module _ (net : Netlist) (p : Plan) (plan : Planned net p) (ok : Steppable net) where
   -- ── A plan can be evaluated ───────────────────────────────────────────────────────────────
 
-  signal-in : (e : ℕ) → e < net.edges → signal net e < 1536
-  signal-in e h = go (eqb (at net.count e) 0)
+  signal_in : (e : ℕ) → e < net.edges → signal net e < 1536
+  signal_in e h = go (eqb (at net.count e) 0)
     where
       go : (b : Bool) → cond b (at net.from e) (512 + e) < 1536
-      go true = omega (arith, (fit-wired net ok.fit).src-in e h, (fit-rows net ok.fit).0)
-      go false = omega (arith, (fit-rows net ok.fit).1)
+      go true = omega (arith, (fit_wired net ok.fit).src_in e h, (fit_rows net ok.fit).0)
+      go false = omega (arith, (fit_rows net ok.fit).1)
 
-  node-placed : Rows p → (v : ℕ) → v < net.nodes → GateRows p.truth p.first p.sees 0 1536 v
-  node-placed rows v h =
+  node_placed : Rows p → (v : ℕ) → v < net.nodes → GateRows p.truth p.first p.sees 0 1536 v
+  node_placed rows v h =
       let r = plan.range v h in
-      let n = fit-rows net ok.fit in record {
-        in-truth = omega (arith, n.0, rows.truth);
-        in-first = omega (arith, n.0, rows.first);
+      let n = fit_rows net ok.fit in record {
+        in_truth = omega (arith, n.0, rows.truth);
+        in_first = omega (arith, n.0, rows.first);
         in_size = omega (arith, n.0);
         up = r.0;
         in_list = omega (arith, n.1, rows.sees);
         narrow = (plan.truth v h).narrow;
-        signals = λ k a b. let w = plan.each k (omega (arith, r.1)) in subst (λ x. x < 1536) (sym w.2) (signal-in w.0 w.1);
+        signals = λ k a b. let w = plan.each k (omega (arith, r.1)) in subst (λ x. x < 1536) (sym w.2) (signal_in w.0 w.1);
       }
 
-  pub plan-evaluable : Rows p → (sig : List ℕ) → length sig ≡ 1536 → AllBits sig → Evaluable p.node p.truth p.index p.first p.sees p.gates 0 sig
-  plan-evaluable rows sig size bits = record {
+  pub plan_evaluable : Rows p → (sig : List ℕ) → length sig ≡ 1536 → AllBits sig → Evaluable p.node p.truth p.index p.first p.sees p.gates 0 sig
+  plan_evaluable rows sig size bits = record {
     table = plan.table;
-    in-node = omega (arith, plan.few, rows.node);
-    placed = λ i h. subst (λ n. GateRows p.truth p.first p.sees 0 n (at p.node i)) (sym size) (node-placed rows (at p.node i) (plan.gate i h).0);
+    in_node = omega (arith, plan.few, rows.node);
+    placed = λ i h. subst (λ n. GateRows p.truth p.first p.sees 0 n (at p.node i)) (sym size) (node_placed rows (at p.node i) (plan.gate i h).0);
     bits = bits;
   }
 
-  pub plan-truths : Truths net.kind p.node p.truth p.first p.gates
-  plan-truths i h = plan.truth (at p.node i) (plan.gate i h).0
+  pub plan_truths : Truths net.kind p.node p.truth p.first p.gates
+  plan_truths i h = plan.truth (at p.node i) (plan.gate i h).0
 
   -- ── The values ────────────────────────────────────────────────────────────────────────────
 
@@ -80,9 +80,9 @@ module _ (net : Netlist) (p : Plan) (plan : Planned net p) (ok : Steppable net) 
       pub shows : (e : ℕ) → e < net.edges → ¬ (at net.count e ≡ 0) → at sig (512 + e) ≡ bit (at words e) 0
 
     -- The source of an edge without a register is an input, or an earlier node of the plan; another edge shows its register.
-    signal-right : (sig : List ℕ) (i e : ℕ) → Right sig i → i < p.gates → e < net.edges → at net.to e ≡ at p.node i
+    signal_right : (sig : List ℕ) (i e : ℕ) → Right sig i → i < p.gates → e < net.edges → at net.to e ≡ at p.node i
         → at sig (signal net e) ≡ shown net words now e
-    signal-right sig i e r h l q = go (ℕ_discrete (at net.count e) 0)
+    signal_right sig i e r h l q = go (ℕ_discrete (at net.count e) 0)
       where
         u : ℕ
         u = at net.from e
@@ -90,34 +90,34 @@ module _ (net : Netlist) (p : Plan) (plan : Planned net p) (ok : Steppable net) 
         go : Dec (at net.count e ≡ 0) → at sig (signal net e) ≡ shown net words now e
         go (yes z) =
             ap (λ t. at sig (cond t u (512 + e))) (eq-eqb (at net.count e) 0 z)
-            ∙ ⊎_elim (λ k. r.inputs u ((fit-wired net ok.fit).src-in e l) k)
+            ∙ ⊎_elim (λ k. r.inputs u ((fit_wired net ok.fit).src_in e l) k)
             (λ w. ap (at sig) (sym w.2) ∙ r.done w.0 w.1 ∙ ap now w.2)
             (plan.after i e h l q z)
-            ∙ sym (shown-none net words now e z)
+            ∙ sym (shown_none net words now e z)
         go (no z) =
             ap (λ t. at sig (cond t u (512 + e))) (ne_eqb (at net.count e) 0 z)
-            ∙ r.shows e l z ∙ sym (shown-some net words now e (omega arith))
+            ∙ r.shows e l z ∙ sym (shown_some net words now e (omega arith))
 
     -- What node i of the plan gives.
     abbrev given : List ℕ → ℕ → ℕ
     given sig v = gate (at net.kind v) (map (at sig) (part p.sees (at p.first v) (at p.first (suc v))))
 
     -- It sees what the paper has it see.
-    node-right : (sig : List ℕ) (i : ℕ) → Right sig i → i < p.gates → given sig (at p.node i) ≡ now (at p.node i)
-    node-right sig i r h =
+    node_right : (sig : List ℕ) (i : ℕ) → Right sig i → i < p.gates → given sig (at p.node i) ≡ now (at p.node i)
+    node_right sig i r h =
         let v = at p.node i in
         let g = plan.gate i h in
         ap (gate (at net.kind v))
-        (ap (map (at sig)) (plan.ins v g.0) ∙ gather-map (at sig) (at net.to) (signal net) v net.edges
-        ∙ gather-same (at net.to) (λ e. at sig (signal net e)) (shown net words now) v net.edges (λ e k q. signal-right sig i e r h k q))
-        ∙ sym (value-gate net (fit-wired net ok.fit) ok.no_loop words vector v g.0 g.1)
+        (ap (map (at sig)) (plan.ins v g.0) ∙ gather_map (at sig) (at net.to) (signal net) v net.edges
+        ∙ gather_same (at net.to) (λ e. at sig (signal net e)) (shown net words now) v net.edges (λ e k q. signal_right sig i e r h k q))
+        ∙ sym (value_gate net (fit_wired net ok.fit) ok.no_loop words vector v g.0 g.1)
 
-    right-more : (sig : List ℕ) (i : ℕ) → length sig ≡ 1536 → i < p.gates → Right sig i
+    right_more : (sig : List ℕ) (i : ℕ) → length sig ≡ 1536 → i < p.gates → Right sig i
         → Right (set sig (at p.node i) (given sig (at p.node i))) (suc i)
-    right-more sig i n h r = record {
+    right_more sig i n h r = record {
       inputs = λ u k q. keep u (r.inputs u k q);
       done = λ j k. last j k (ℕ_discrete j i);
-      shows = λ e k q. get_or-set_other sig v (512 + e) x 0 (let z : ¬ (512 + e ≡ v) = λ q. omega (arith, (plan.gate i h).0, (fit-rows net ok.fit).0) in z) ∙ r.shows e k q;
+      shows = λ e k q. get_or-set_other sig v (512 + e) x 0 (let z : ¬ (512 + e ≡ v) = λ q. omega (arith, (plan.gate i h).0, (fit_rows net ok.fit).0) in z) ∙ r.shows e k q;
     }
       where
         v : ℕ
@@ -127,7 +127,7 @@ module _ (net : Netlist) (p : Plan) (plan : Planned net p) (ok : Steppable net) 
         x = given sig v
 
         same : at (set sig v x) v ≡ now v
-        same = get_or-set_same sig v x 0 (let z : v < length sig = omega (arith, (plan.gate i h).0, (fit-rows net ok.fit).0) in z) ∙ node-right sig i r h
+        same = get_or-set_same sig v x 0 (let z : v < length sig = omega (arith, (plan.gate i h).0, (fit_rows net ok.fit).0) in z) ∙ node_right sig i r h
 
         keep : (u : ℕ) → at sig u ≡ now u → at (set sig v x) u ≡ now u
         keep u q = go (ℕ_discrete u v)
@@ -144,21 +144,21 @@ module _ (net : Netlist) (p : Plan) (plan : Planned net p) (ok : Steppable net) 
     abbrev after : List ℕ → ℕ → List ℕ
     after sig n = evaluated net.kind p.node p.first p.sees 0 n sig
 
-    right-all : (sig : List ℕ) → length sig ≡ 1536 → Right sig 0 → (n : ℕ) → n ≤ p.gates → Right (after sig n) n
+    right_all : (sig : List ℕ) → length sig ≡ 1536 → Right sig 0 → (n : ℕ) → n ≤ p.gates → Right (after sig n) n
     unfolding evaluated
-    right-all sig l r zero h = r
-    right-all sig l r (suc n) h =
+    right_all sig l r zero h = r
+    right_all sig l r (suc n) h =
         let before = after sig n in
         let v = at p.node n in
         subst (λ k. Right (set before k (given before v)) (suc n)) (let z : v ≡ 0 + v = omega arith in z)
-        (right-more before n (evaluated-length net.kind p.node p.first p.sees 0 sig n ∙ l) (omega arith) (right-all sig l r n (omega arith)))
+        (right_more before n (evaluated_length net.kind p.node p.first p.sees 0 sig n ∙ l) (omega arith) (right_all sig l r n (omega arith)))
 
     -- Each node is an input or in the plan.
-    pub right-values : (sig : List ℕ) → length sig ≡ 1536 → Right sig 0 → (v : ℕ) → v < net.nodes → at (after sig p.gates) v ≡ now v
-    right-values sig l r v h = go (ℕ_discrete (at net.kind v) 0)
+    pub right_values : (sig : List ℕ) → length sig ≡ 1536 → Right sig 0 → (v : ℕ) → v < net.nodes → at (after sig p.gates) v ≡ now v
+    right_values sig l r v h = go (ℕ_discrete (at net.kind v) 0)
       where
         right : Right (after sig p.gates) p.gates
-        right = right-all sig l r p.gates (omega arith)
+        right = right_all sig l r p.gates (omega arith)
 
         go : Dec (at net.kind v ≡ 0) → at (after sig p.gates) v ≡ now v
         go (yes q) = right.inputs v h q

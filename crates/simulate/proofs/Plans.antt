@@ -13,32 +13,32 @@ use Rattle.graph.specs.inner.Lists.{Filtered}
 use Rattle.gates.specs.inner.Gates.{Reckons, Table}
 use Rattle.netlist.specs.declared.Netlist.{Netlist}
 use Rattle.netlist.specs.Theorems.{Fit}
-use Rattle.netlist.proofs.Run.{fit-rows}
+use Rattle.netlist.proofs.Run.{fit_rows}
 use Rattle.simulate.specs.declared.plan.Plan.{Plan}
 use Rattle.simulate.specs.inner.Plan.{signal, NoInput, Planned}
 use Rattle.simulate.proofs.Seen.{Entering}
 
 module _ (net : Netlist) (p : Plan) (f : Fit net) (order : List ℕ) (o : Ordered net.nodes net.edges net.from net.to net.count order)
     (kept : Filtered (NoInput net.kind) order net.nodes p.node p.gates) where
-  gate-in : (i : ℕ) → i < p.gates → (at p.node i < net.nodes) × ¬ (at net.kind (at p.node i) ≡ 0)
-  gate-in i h = let k = kept.each i h in (subst (λ v. v < net.nodes) k.same (o.nodes-only k.place k.within), k.has)
+  gate_in : (i : ℕ) → i < p.gates → (at p.node i < net.nodes) × ¬ (at net.kind (at p.node i) ≡ 0)
+  gate_in i h = let k = kept.each i h in (subst (λ v. v < net.nodes) k.same (o.nodes_only k.place k.within), k.has)
 
-  gate-every : (v : ℕ) → v < net.nodes → ¬ (at net.kind v ≡ 0) → (i : ℕ) × (i < p.gates) × (at p.node i ≡ v)
-  gate-every v h n =
-      let s = o.every-node v h in
+  gate_every : (v : ℕ) → v < net.nodes → ¬ (at net.kind v ≡ 0) → (i : ℕ) × (i < p.gates) × (at p.node i ≡ v)
+  gate_every v h n =
+      let s = o.every_node v h in
       let t = kept.every s.place s.within (λ z. n (ap (at net.kind) (sym s.holds) ∙ z)) in
       (t.place, t.within, t.holds ∙ s.holds)
 
   -- The source stands before the node in the order; where it is no input, so it does in the list.
-  gate-after : (i e : ℕ) → i < p.gates → e < net.edges → at net.to e ≡ at p.node i → at net.count e ≡ 0
+  gate_after : (i e : ℕ) → i < p.gates → e < net.edges → at net.to e ≡ at p.node i → at net.count e ≡ 0
       → (at net.kind (at net.from e) ≡ 0) ⊎ ((j : ℕ) × (j < i) × (at p.node j ≡ at net.from e))
-  gate-after i e h l q z = go (ℕ_discrete (at net.kind (at net.from e)) 0)
+  gate_after i e h l q z = go (ℕ_discrete (at net.kind (at net.from e)) 0)
     where
       go : Dec (at net.kind (at net.from e) ≡ 0) → (at net.kind (at net.from e) ≡ 0) ⊎ ((j : ℕ) × (j < i) × (at p.node j ≡ at net.from e))
       go (yes y) = inl y
       go (no n) =
           let k = kept.each i h in
-          let s = o.sources-first k.place e k.within l (q ∙ sym k.same) z in
+          let s = o.sources_first k.place e k.within l (q ∙ sym k.same) z in
           let t = k.before s.place s.within (λ y. n (ap (at net.kind) (sym s.holds) ∙ y)) in
           inr (t.place, t.within, t.holds ∙ s.holds)
 
@@ -47,10 +47,10 @@ module _ (net : Netlist) (p : Plan) (f : Fit net) (order : List ℕ) (o : Ordere
       → ((v : ℕ) → v < net.nodes → Reckons (at net.kind v) (at p.first (suc v) - at p.first v) (at p.truth v))
       → Table p.index → Planned net p
   planned {ins} en rows signals truths table = record {
-    few = omega (arith, kept.few, (fit-rows net f).0);
-    gate = gate-in;
-    every = gate-every;
-    after = gate-after;
+    few = omega (arith, kept.few, (fit_rows net f).0);
+    gate = gate_in;
+    every = gate_every;
+    after = gate_after;
     range = λ v h. (en.rising v h, en.within v h);
     each = λ k h. (at ins k, en.edge k h, signals k h);
     ins = en.its (signal net) p.sees rows signals;

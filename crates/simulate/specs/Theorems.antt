@@ -16,8 +16,8 @@ use Rattle.netlist.specs.Write.{joined}
 use Rattle.netlist.specs.Theorems.{Same}
 use Rattle.simulate.specs.declared.Machine.{Machine}
 use Rattle.simulate.specs.Clock.{earlier, inputs, outputs}
-use Rattle.simulate.specs.Step.{onlyBits, wordsFit, Steps}
-use Rattle.simulate.specs.Run.{clocksFrom, Runs}
+use Rattle.simulate.specs.Step.{only_bits, words_fit, Steps}
+use Rattle.simulate.specs.Run.{clocks_from, Runs}
 
 -- ── The calls ───────────────────────────────────────────────────────────────────────────────
 
@@ -52,14 +52,14 @@ WordsUnread = (net net' : Netlist) (m k m' : Machine) (vector old : List ℕ) (s
 abbrev pub RunIsStepping : Type 0
 RunIsStepping = (t : List ℕ) (net : Netlist) (m m' : Machine) (n o : ℕ) (vectors old new : List ℕ)
     → Reads t (value 0) net → Steps net m (take (inputs net) vectors) old (value o) m' new
-    → (o ≡ outputs net) × (clocksFrom net (suc n) m.words vectors ≡ take o new ++ clocksFrom net n m'.words (drop (inputs net) vectors))
+    → (o ≡ outputs net) × (clocks_from net (suc n) m.words vectors ≡ take o new ++ clocks_from net n m'.words (drop (inputs net) vectors))
 
 -- No step of a run is refused: the start values fit their edges' counts, and a step from words that fit leaves words that fit.
 abbrev pub StepsGoOn : Type 0
 StepsGoOn = (t : List ℕ) (net : Netlist) → Reads t (value 0) net
-    → (wordsFit net net.start net.edges ≡ true)
-    × ((m : Machine) (vector old : List ℕ) → wordsFit net m.words net.edges ≡ true → length vector ≡ inputs net → onlyBits vector ≡ true → outputs net ≤ length old
-    → (m' : Machine) × (new : List ℕ) × Steps net m vector old (value (outputs net)) m' new × (wordsFit net m'.words net.edges ≡ true))
+    → (words_fit net net.start net.edges ≡ true)
+    × ((m : Machine) (vector old : List ℕ) → words_fit net m.words net.edges ≡ true → length vector ≡ inputs net → only_bits vector ≡ true → outputs net ≤ length old
+    → (m' : Machine) × (new : List ℕ) × Steps net m vector old (value (outputs net)) m' new × (words_fit net m'.words net.edges ≡ true))
 
 -- ── The trace ───────────────────────────────────────────────────────────────────────────────
 
@@ -81,9 +81,9 @@ byte_at net vectors v k = get_or vectors (k * inputs net + earlier net 0 v) 0
 -- A run puts out the trace's values.
 abbrev pub RunIsTrace : Type 0
 RunIsTrace = (t : List ℕ) (net : Netlist) (n : ℕ) (vectors : List ℕ) (x : ℕ → ℕ → ℕ)
-    → Reads t (value 0) net → onlyBits vectors ≡ true
+    → Reads t (value 0) net → only_bits vectors ≡ true
     → TraceIn net (byte_at net vectors) x
-    → clocksFrom net n net.start vectors ≡ joined (λ k. gather (graph_of net).kind (λ v. x v k) 1 net.nodes) n
+    → clocks_from net n net.start vectors ≡ joined (λ k. gather (graph_of net).kind (λ v. x v k) 1 net.nodes) n
 
 -- Two netlists with the same nodes whose traces agree at the outputs, on all inputs: "The two runs give the same answer, a refusal included, and leave equal buffers."
 abbrev pub RunsAlike : Type 0

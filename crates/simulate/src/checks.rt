@@ -3,7 +3,7 @@
 ghost use Rattle.std.specs.Prelude.{◌≡◌, ◌≤◌, length};
 ghost use Rattle.netlist.specs.Theorems.{Fit};
 ghost use Rattle.simulate.specs.Clock.{earlier};
-ghost use Rattle.simulate.specs.Step.{onlyBits, wordsFit, stepFits};
+ghost use Rattle.simulate.specs.Step.{only_bits, words_fit, step_fits};
 
 use netlist::Netlist;
 use rules::bits_fit;
@@ -27,7 +27,7 @@ pub fn count_kind(net: Netlist, k: u8) -> usize
 
 // Whether no byte is above 1.
 pub fn are_bits(vector: &[u8]) -> bool
-    ensures { result ≡ onlyBits vector.now }
+    ensures { result ≡ only_bits vector.now }
 {
     let mut i = 0;
     while i < vector.len() {
@@ -42,7 +42,7 @@ pub fn are_bits(vector: &[u8]) -> bool
 // Whether no machine word has a bit at or above its edge's count.
 fn words_fit(net: Netlist, words: &[u32]) -> bool
     requires { Fit net × (net.edges ≤ length words.now) }
-    ensures { result ≡ wordsFit net words.now net.edges }
+    ensures { result ≡ words_fit net words.now net.edges }
 {
     let edges = net.edges as usize;
     let mut e = 0;
@@ -58,7 +58,7 @@ fn words_fit(net: Netlist, words: &[u32]) -> bool
 // Rule 13 of stepping: one vector, of bits, and words that fit.
 pub fn step_fits(net: Netlist, words: &[u32], vector: &[u8]) -> bool
     requires { Fit net × (net.edges ≤ length words.now) }
-    ensures { result ≡ stepFits net words.now vector.now }
+    ensures { result ≡ step_fits net words.now vector.now }
 {
     if vector.len() != count_kind(net, 0) {
         return false;

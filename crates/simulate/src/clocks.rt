@@ -4,14 +4,14 @@
 ghost use Rattle.std.specs.Prelude.{◌≡◌, ◌+◌, ◌^◌, ◌<◌, ◌≤◌, length};
 ghost use Rattle.simulate.specs.Clock.{shifted};
 ghost use Rattle.gates.specs.inner.Gates.{AllBits};
-ghost use Rattle.simulate.specs.inner.Signals.{Within, Movable, withInputs, withRegisters, withOutputs, withShifts};
+ghost use Rattle.simulate.specs.inner.Signals.{Within, Movable, with_inputs, with_registers, with_outputs, with_shifts};
 
 use graph::NODES;
 
 // The vector that begins at `at0`, one byte for each of the first n nodes of the list.
 fn put_inputs(inputs: &[u16], n: usize, vectors: &[u8], at0: usize, sig: &mut [u8])
     requires { Within inputs.now n (length sig.old) × (at0 + n ≤ length vectors.now) }
-    ensures { sig.new ≡ withInputs inputs.now n vectors.now at0 sig.old }
+    ensures { sig.new ≡ with_inputs inputs.now n vectors.now at0 sig.old }
 {
     let mut i = 0;
     while i < n {
@@ -24,7 +24,7 @@ fn put_inputs(inputs: &[u16], n: usize, vectors: &[u8], at0: usize, sig: &mut [u
 // What each of the first n edges of the list shows from its register: bit 0 of its word.
 fn show_registers(registers: &[u16], n: usize, words: &[u32], sig: &mut [u8])
     requires { Within registers.now n (length words.now) × (512 + length words.now ≤ length sig.old) }
-    ensures { sig.new ≡ withRegisters registers.now n words.now sig.old }
+    ensures { sig.new ≡ with_registers registers.now n words.now sig.old }
 {
     let mut i = 0;
     while i < n {
@@ -47,7 +47,7 @@ pub fn enter<'a>(
 )
     requires within { Within inputs.now n (length sig.old) × (at0 + n ≤ length vectors.now) }
     requires within_2 { Within registers.now m (length words.now) × (512 + length words.now ≤ length sig.old) }
-    ensures { sig.new ≡ withRegisters registers.now m words.now (withInputs inputs.now n vectors.now at0 sig.old) }
+    ensures { sig.new ≡ with_registers registers.now m words.now (with_inputs inputs.now n vectors.now at0 sig.old) }
 {
     put_inputs(inputs, n, vectors, at0, sig);
     show_registers(registers, m, words, sig);
@@ -72,7 +72,7 @@ pub fn shift<'a>(
     words: &mut [u32],
 )
     requires { Movable registers.now n from.now count.now words.old (length sig.now) × AllBits sig.now }
-    ensures { words.new ≡ withShifts registers.now n from.now count.now sig.now words.old }
+    ensures { words.new ≡ with_shifts registers.now n from.now count.now sig.now words.old }
 {
     let mut i = 0;
     while i < n {
@@ -86,7 +86,7 @@ pub fn shift<'a>(
 // The signals of the first n nodes of the list, one byte each, at `at0`.
 pub fn put_outputs(outputs: &[u16], n: usize, sig: &[u8], out: &mut [u8], at0: usize)
     requires { Within outputs.now n (length sig.now) × (at0 + n ≤ length out.old) }
-    ensures { out.new ≡ withOutputs outputs.now n sig.now at0 out.old }
+    ensures { out.new ≡ with_outputs outputs.now n sig.now at0 out.old }
 {
     let mut i = 0;
     while i < n {

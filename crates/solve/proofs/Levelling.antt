@@ -1,7 +1,7 @@
 -- Level by level: the stack of cells that wait, and where the levels begin.
---   waiting-one, waiting-more, waiting-less   the stack: its first cell, a push, a pop
---   begun-none, begun_kept, begun_more        where the levels begin
---   level-turn          a level is done
+--   waiting_one, waiting_more, waiting_less   the stack: its first cell, a push, a pop
+--   begun_none, begun_kept, begun_more        where the levels begin
+--   level_turn          a level is done
 --   ranked              all cells have numbers
 use Prim.Native.Nat.{ℕ, suc, ◌+◌, ◌-◌, ◌≤◌, ◌<◌}
 use native.Mathlib.Omega.{arith}
@@ -12,16 +12,16 @@ use mathlib.Core.List.{List}
 use lib.ListN.{length, set}
 use lib.Seq.{get_or-set_same, get_or-set_other}
 use Rattle.graph.specs.Columns.{at}
-use Rattle.graph.proofs.Fills.{fill-with}
+use Rattle.graph.proofs.Fills.{fill_with}
 use Rattle.solve.specs.inner.Parts.{Spans}
 use Rattle.solve.specs.inner.Numbers.{Layers, Numbered, Extended, LevelNumbered, Waiting, LevelsBegun, Ranked}
-use Rattle.solve.proofs.Spanning.{reach-bit}
-use Rattle.solve.proofs.Numbering.{numbered-all, numbered-level}
+use Rattle.solve.proofs.Spanning.{reach_bit}
+use Rattle.solve.proofs.Numbering.{numbered_all, numbered_level}
 
 -- ── The stack ───────────────────────────────────────────────────────────────────────────────
 
-pub waiting-one : {m i : ℕ} {span id : List ℕ} (stack : List ℕ) → 0 < length stack → at span i ≡ m → at id i ≡ 12288 → Waiting m 1 i span id (set stack 0 i)
-waiting-one {m} {i} {span} {id} stack rows own free = record {
+pub waiting_one : {m i : ℕ} {span id : List ℕ} (stack : List ℕ) → 0 < length stack → at span i ≡ m → at id i ≡ 12288 → Waiting m 1 i span id (set stack 0 i)
+waiting_one {m} {i} {span} {id} stack rows own free = record {
   bottom = here;
   level = λ j h. ap (at span) (first j h) ∙ own;
   waits = λ j h. ap (at id) (first j h) ∙ free;
@@ -43,22 +43,22 @@ module _ {m h i : ℕ} {span id stack : List ℕ} (s : Waiting m h i span id sta
     other : (j : ℕ) → ¬ (j ≡ h) → at (set stack h x) j ≡ at stack j
     other j o = get_or-set_other stack h j x 0 o
 
-    falls-more : (a b : ℕ) → Dec (b ≡ h) → Dec (a ≡ h) → a ≤ b → b < h + 1 → at (set stack h x) b + b ≤ at (set stack h x) a + a
-    falls-more a b (yes e) (yes f) l g = let z : b ≡ a = omega arith in omega (arith, ap (at (set stack h x)) z)
-    falls-more a b (yes e) (no f) l g =
+    falls_more : (a b : ℕ) → Dec (b ≡ h) → Dec (a ≡ h) → a ≤ b → b < h + 1 → at (set stack h x) b + b ≤ at (set stack h x) a + a
+    falls_more a b (yes e) (yes f) l g = let z : b ≡ a = omega arith in omega (arith, ap (at (set stack h x)) z)
+    falls_more a b (yes e) (no f) l g =
         omega (arith, ap (at (set stack h x)) e ∙ here, other a f, s.falls a (h - 1) (omega arith) (omega arith))
-    falls-more a b (no e) f l g = omega (arith, other a (λ z. omega arith), other b e, s.falls a b l (omega arith))
+    falls_more a b (no e) f l g = omega (arith, other a (λ z. omega arith), other b e, s.falls a b l (omega arith))
 
-    pub waiting-more : Waiting m (h + 1) i span id (set stack h x)
-    waiting-more = record {
+    pub waiting_more : Waiting m (h + 1) i span id (set stack h x)
+    waiting_more = record {
       bottom = other 0 (λ z. omega arith) ∙ s.bottom;
-      level = fill-with (λ j y. at span y ≡ m) stack h x rows own s.level;
-      waits = fill-with (λ j y. at id y ≡ 12288) stack h x rows free s.waits;
-      falls = λ a b l g. falls-more a b (ℕ_discrete b h) (ℕ_discrete a h) l g;
+      level = fill_with (λ j y. at span y ≡ m) stack h x rows own s.level;
+      waits = fill_with (λ j y. at id y ≡ 12288) stack h x rows free s.waits;
+      falls = λ a b l g. falls_more a b (ℕ_discrete b h) (ℕ_discrete a h) l g;
     }
 
-  pub waiting-less : (n : ℕ) → Waiting m (h - 1) i span (set id (at stack (h - 1)) n) stack
-  waiting-less n = record {
+  pub waiting_less : (n : ℕ) → Waiting m (h - 1) i span (set id (at stack (h - 1)) n) stack
+  waiting_less n = record {
     bottom = s.bottom;
     level = λ j l. s.level j (omega arith);
     waits = λ j l.
@@ -69,8 +69,8 @@ module _ {m h i : ℕ} {span id stack : List ℕ} (s : Waiting m h i span id sta
 
 -- ── Levels ──────────────────────────────────────────────────────────────────────────────────
 
-pub begun-none : {n : ℕ} {span code levels : List ℕ} → LevelsBegun 0 n span code levels
-begun-none = record {
+pub begun_none : {n : ℕ} {span code levels : List ℕ} → LevelsBegun 0 n span code levels
+begun_none = record {
   within = λ a h. absurd (let z : ⊥ = omega arith in z);
   climbs = λ a h. absurd (let z : ⊥ = omega arith in z);
   low = λ a q h l. absurd (let z : ⊥ = omega arith in z);
@@ -85,37 +85,37 @@ module _ {m n : ℕ} {span code levels : List ℕ} (s : LevelsBegun m n span cod
   }
 
   module _ (rows : m < length levels) (below : (q : ℕ) → q < n → at span (at code q) < m) where
-    pub begun-here : at (set levels m n) m ≡ n
-    begun-here = get_or-set_same levels m n 0 rows
+    pub begun_here : at (set levels m n) m ≡ n
+    begun_here = get_or-set_same levels m n 0 rows
 
     kept : (a : ℕ) → ¬ (a ≡ m) → at (set levels m n) a ≡ at levels a
     kept a o = get_or-set_other levels m a n 0 o
 
     within_more : (a : ℕ) → Dec (a ≡ m) → a < m + 1 → at (set levels m n) a ≤ n
-    within_more a (yes e) h = omega (arith, ap (at (set levels m n)) e ∙ begun-here)
+    within_more a (yes e) h = omega (arith, ap (at (set levels m n)) e ∙ begun_here)
     within_more a (no e) h = omega (arith, kept a e, s.within a (omega arith))
 
-    climbs-more : (a : ℕ) → Dec (suc a ≡ m) → suc a < m + 1 → at (set levels m n) a ≤ at (set levels m n) (suc a)
-    climbs-more a (yes e) h = omega (arith, kept a (λ z. omega arith), s.within a (omega arith), ap (at (set levels m n)) e ∙ begun-here)
-    climbs-more a (no e) h = omega (arith, kept a (λ z. omega arith), kept (suc a) e, s.climbs a (omega arith))
+    climbs_more : (a : ℕ) → Dec (suc a ≡ m) → suc a < m + 1 → at (set levels m n) a ≤ at (set levels m n) (suc a)
+    climbs_more a (yes e) h = omega (arith, kept a (λ z. omega arith), s.within a (omega arith), ap (at (set levels m n)) e ∙ begun_here)
+    climbs_more a (no e) h = omega (arith, kept a (λ z. omega arith), kept (suc a) e, s.climbs a (omega arith))
 
-    low-more : (a q : ℕ) → Dec (a ≡ m) → a < m + 1 → q < at (set levels m n) a → at span (at code q) < a
-    low-more a q (yes e) h l = omega (arith, below q (omega (arith, ap (at (set levels m n)) e ∙ begun-here)))
-    low-more a q (no e) h l = s.low a q (omega arith) (omega (arith, kept a e))
+    low_more : (a q : ℕ) → Dec (a ≡ m) → a < m + 1 → q < at (set levels m n) a → at span (at code q) < a
+    low_more a q (yes e) h l = omega (arith, below q (omega (arith, ap (at (set levels m n)) e ∙ begun_here)))
+    low_more a q (no e) h l = s.low a q (omega arith) (omega (arith, kept a e))
 
     pub begun_more : LevelsBegun (m + 1) n span code (set levels m n)
     begun_more = record {
       within = λ a h. within_more a (ℕ_discrete a m) h;
-      climbs = λ a h. climbs-more a (ℕ_discrete (suc a) m) h;
-      low = λ a q h l. low-more a q (ℕ_discrete a m) h l;
+      climbs = λ a h. climbs_more a (ℕ_discrete (suc a) m) h;
+      low = λ a q h l. low_more a q (ℕ_discrete a m) h l;
     }
 
 -- A level is done: its cells and those before have their numbers.
-pub level-turn : {L : Layers} {m n r : ℕ} {old id code levels : List ℕ} → L.cells ≤ 12288 → m < length levels → ((q : ℕ) → q < n → at L.span (at old q) < m)
+pub level_turn : {L : Layers} {m n r : ℕ} {old id code levels : List ℕ} → L.cells ≤ 12288 → m < length levels → ((q : ℕ) → q < n → at L.span (at old q) < m)
     → LevelsBegun m n L.span old levels → Extended L m n r old id code → LevelNumbered L m r id
     → Numbered L (m + 1) r id code × LevelsBegun (m + 1) r L.span code (set levels m n) × ((q : ℕ) → q < r → at L.span (at code q) < m + 1)
-level-turn few rows below b x all = (
-  numbered-level few x.numbered all,
+level_turn few rows below b x all = (
+  numbered_level few x.numbered all,
   begun_kept (begun_more b rows below) x.more x.kept,
   λ q h. omega (arith, x.numbered.level q h),
 )
@@ -124,8 +124,8 @@ pub ranked : {k m n : ℕ} {L : Layers} {id code levels : List ℕ} → L.cells 
     → Numbered L m n id code → LevelsBegun (m + 1) n L.span code levels → at levels m ≡ n → Ranked L.cells k L.first L.operand id code levels
 ranked {k} {m} {n} {L} {id} {code} {levels} few t e s b last = record {
   paired = record {
-    id-rows = s.id-rows;
-    code-rows = s.code-rows;
+    id_rows = s.id_rows;
+    code_rows = s.code_rows;
     cell = λ q h. s.cell q (omega (arith, all));
     number = λ q h. s.number q (omega (arith, all));
     each = λ i h. ⊎_elim (λ o. absurd (let z : ⊥ = omega (arith, given i h, s.few) in z)) (λ o. (omega (arith, s.few), o.1)) (s.each i h);
@@ -138,14 +138,14 @@ ranked {k} {m} {n} {L} {id} {code} {levels} few t e s b last = record {
   sees = λ a q j h l v o w.
       let x = b.low (suc a) q (omega arith) l in
       let y : q < n = omega (arith, b.within (suc a) (omega arith)) in
-      omega (arith, t.above (at code q) j (s.cell q y) v o, reach-bit L.span (at L.operand j) w);
+      omega (arith, t.above (at code q) j (s.cell q y) v o, reach_bit L.span (at L.operand j) w);
 }
   where
     given : (i : ℕ) → i < L.cells → at id i < n
     given i h = s.lower i h (omega (arith, t.most i h))
 
     all : n ≡ L.cells
-    all = numbered-all few s given
+    all = numbered_all few s given
 
     go : Dec (0 < at levels 0) → at levels 0 ≡ 0
     go (yes h) = absurd (let z : ⊥ = omega (arith, b.low 0 0 (omega arith) h) in z)

@@ -1,14 +1,14 @@
 -- New numbers, cell by cell.
 --   layered             the spans are levels
---   numbered-none       no number is given yet
---   numbered-room       while a cell has no number, fewer are given than there are cells
+--   numbered_none       no number is given yet
+--   numbered_room       while a cell has no number, fewer are given than there are cells
 --   numbered_more       one number more: for a cell of level m, after all that it needs
---   extended-one        so the numbers given before stay
---   numbered-all        when every cell has a number, there are as many numbers as cells
---   numbered-level      all cells of a level have numbers
---   numbered-ready      nothing is missing that a cell needs
---   extended-same, extended-more     the numbers that were given stay, also when more are given twice
---   extended-number     a cell that had a number has one
+--   extended_one        so the numbers given before stay
+--   numbered_all        when every cell has a number, there are as many numbers as cells
+--   numbered_level      all cells of a level have numbers
+--   numbered_ready      nothing is missing that a cell needs
+--   extended_same, extended_more     the numbers that were given stay, also when more are given twice
+--   extended_number     a cell that had a number has one
 use Prim.Native.Nat.{ℕ, zero, suc, ◌+◌, ◌-◌, ◌≤◌, ◌<◌}
 use native.Mathlib.Omega.{arith}
 use native.Mathlib.Decide.{ℕ_discrete, dec_lt}
@@ -17,28 +17,28 @@ use mathlib.Core.Logic.{◌⊎◌, inl, inr, ⊎_elim}
 use mathlib.Core.List.{List}
 use lib.ListN.{length, set, length-set}
 use lib.Seq.{get_or-set_same, get_or-set_other}
-use Rattle.theory.proofs.numbers.Pigeon.{no-injection, cons}
+use Rattle.theory.proofs.numbers.Pigeon.{no_injection, cons}
 use Rattle.graph.specs.Columns.{at}
 use Rattle.solve.specs.inner.Parts.{OperandsWired, Spans}
-use Rattle.solve.specs.inner.Numbers.{Layers, layersOf, Layered, Missing, Numbered, Extended, LevelNumbered}
-use Rattle.solve.proofs.Spanning.{reach-cell}
+use Rattle.solve.specs.inner.Numbers.{Layers, layers_of, Layered, Missing, Numbered, Extended, LevelNumbered}
+use Rattle.solve.proofs.Spanning.{reach_cell}
 
 pub layered : {cells k : ℕ} {first operand span : List ℕ} → OperandsWired cells first operand → cells ≤ length span
-    → Spans k first operand span cells → Layered (layersOf cells first operand span)
+    → Spans k first operand span cells → Layered (layers_of cells first operand span)
 layered {cells} {k} {first} {operand} {span} w rows s = record {
   wired = w;
-  span-rows = rows;
-  above = λ i j h a b big. omega (arith, s.above i j h a b, reach-cell span (at operand j) big);
+  span_rows = rows;
+  above = λ i j h a b big. omega (arith, s.above i j h a b, reach_cell span (at operand j) big);
 }
 
 -- ── One number more ─────────────────────────────────────────────────────────────────────────
 
-pub numbered-none : {L : Layers} {id code : List ℕ} → L.cells ≤ length id → L.cells ≤ length code
+pub numbered_none : {L : Layers} {id code : List ℕ} → L.cells ≤ length id → L.cells ≤ length code
     → ((i : ℕ) → i < L.cells → at id i ≡ 12288) → Numbered L 0 0 id code
-numbered-none rows room none = record {
+numbered_none rows room none = record {
   few = omega arith;
-  id-rows = rows;
-  code-rows = room;
+  id_rows = rows;
+  code_rows = room;
   cell = λ q h. absurd (let z : ⊥ = omega arith in z);
   number = λ q h. absurd (let z : ⊥ = omega arith in z);
   each = λ i h. inl (none i h);
@@ -49,8 +49,8 @@ numbered-none rows room none = record {
 
 module _ {L : Layers} {m n : ℕ} {id code : List ℕ} (few : L.cells ≤ 12288) (s : Numbered L m n id code) where
   -- The cells of the numbers and this one are all different.
-  pub numbered-room : (i : ℕ) → i < L.cells → at id i ≡ 12288 → n < L.cells
-  numbered-room i h e = go (dec_lt n L.cells)
+  pub numbered_room : (i : ℕ) → i < L.cells → at id i ≡ 12288 → n < L.cells
+  numbered_room i h e = go (dec_lt n L.cells)
     where
       f : ℕ → ℕ
       f = cons i (at code)
@@ -70,59 +70,59 @@ module _ {L : Layers} {m n : ℕ} {id code : List ℕ} (few : L.cells ≤ 12288)
       go (yes w) = w
       go (no w) =
           let z : n ≡ L.cells = omega (arith, s.few) in
-          absurd (no-injection L.cells f (low z) (differ z))
+          absurd (no_injection L.cells f (low z) (differ z))
 
   -- Every cell has a number: then there are as many numbers as cells.
-  pub numbered-all : ((i : ℕ) → i < L.cells → at id i < n) → n ≡ L.cells
-  numbered-all all = go (dec_lt n L.cells)
+  pub numbered_all : ((i : ℕ) → i < L.cells → at id i < n) → n ≡ L.cells
+  numbered_all all = go (dec_lt n L.cells)
     where
       back : (i : ℕ) → i < L.cells → at code (at id i) ≡ i
       back i h = ⊎_elim (λ e. absurd (let z : ⊥ = omega (arith, all i h, s.few) in z)) (λ e. e.1) (s.each i h)
 
       go : Dec (n < L.cells) → n ≡ L.cells
       go (yes w) =
-          absurd (no-injection n (at id) (λ i h. all i (omega arith))
+          absurd (no_injection n (at id) (λ i h. all i (omega arith))
           (λ i j l h e. (let z : i ≡ j = sym (back i (omega arith)) ∙ ap (at code) e ∙ back j (omega arith) in let y : ⊥ = omega arith in y)))
       go (no w) = omega (arith, s.few)
 
   -- A cell's number is given already, or is none.
-  pub numbered-given : (i : ℕ) → i < L.cells → ¬ (at id i ≡ 12288) → at id i < n
-  numbered-given i h o = ⊎_elim (λ e. absurd (o e)) (λ e. e.0) (s.each i h)
+  pub numbered_given : (i : ℕ) → i < L.cells → ¬ (at id i ≡ 12288) → at id i < n
+  numbered_given i h o = ⊎_elim (λ e. absurd (o e)) (λ e. e.0) (s.each i h)
 
   module _ {i : ℕ} (w : OperandsWired L.cells L.first L.operand) (h : i < L.cells) (own : at L.span i ≡ m) (free : at id i ≡ 12288)
       (ready : (j : ℕ) → at L.first i ≤ j → j < at L.first (suc i) → 32 ≤ at L.operand j → at id (at L.operand j - 32) < n) where
     room : n < L.cells
-    room = numbered-room i h free
+    room = numbered_room i h free
 
-    id-here : at (set id i n) i ≡ n
-    id-here = get_or-set_same id i n 0 (omega (arith, s.id-rows))
+    id_here : at (set id i n) i ≡ n
+    id_here = get_or-set_same id i n 0 (omega (arith, s.id_rows))
 
     id_other : (j : ℕ) → ¬ (j ≡ i) → at (set id i n) j ≡ at id j
     id_other j o = get_or-set_other id i j n 0 o
 
     code_here : at (set code n i) n ≡ i
-    code_here = get_or-set_same code n i 0 (omega (arith, s.code-rows, room))
+    code_here = get_or-set_same code n i 0 (omega (arith, s.code_rows, room))
 
     code_other : (q : ℕ) → ¬ (q ≡ n) → at (set code n i) q ≡ at code q
     code_other q o = get_or-set_other code n q i 0 o
 
     -- What has a number is not this cell.
-    not-this : (j : ℕ) → at id j < n → ¬ (j ≡ i)
-    not-this j l e = omega (arith, ap (at id) e, s.few)
+    not_this : (j : ℕ) → at id j < n → ¬ (j ≡ i)
+    not_this j l e = omega (arith, ap (at id) e, s.few)
 
-    cell-more : (q : ℕ) → Dec (q ≡ n) → q < n + 1 → at (set code n i) q < L.cells
-    cell-more q (yes e) l = omega (arith, ap (at (set code n i)) e ∙ code_here)
-    cell-more q (no e) l = omega (arith, code_other q e, s.cell q (omega arith))
+    cell_more : (q : ℕ) → Dec (q ≡ n) → q < n + 1 → at (set code n i) q < L.cells
+    cell_more q (yes e) l = omega (arith, ap (at (set code n i)) e ∙ code_here)
+    cell_more q (no e) l = omega (arith, code_other q e, s.cell q (omega arith))
 
     number_more : (q : ℕ) → Dec (q ≡ n) → q < n + 1 → at (set id i n) (at (set code n i) q) ≡ q
-    number_more q (yes e) l = ap (at (set id i n)) (ap (at (set code n i)) e ∙ code_here) ∙ id-here ∙ sym e
+    number_more q (yes e) l = ap (at (set id i n)) (ap (at (set code n i)) e ∙ code_here) ∙ id_here ∙ sym e
     number_more q (no e) l =
         let b = s.number q (omega arith) in
-        ap (at (set id i n)) (code_other q e) ∙ id_other (at code q) (not-this (at code q) (omega (arith, b))) ∙ b
+        ap (at (set id i n)) (code_other q e) ∙ id_other (at code q) (not_this (at code q) (omega (arith, b))) ∙ b
 
     each_more : (j : ℕ) → Dec (j ≡ i) → j < L.cells → (at (set id i n) j ≡ 12288) ⊎ ((at (set id i n) j < n + 1) × (at (set code n i) (at (set id i n) j) ≡ j))
     each_more j (yes e) l =
-        let z = ap (at (set id i n)) e ∙ id-here in
+        let z = ap (at (set id i n)) e ∙ id_here in
         inr (omega (arith, z), ap (at (set code n i)) z ∙ code_here ∙ sym e)
     each_more j (no e) l =
         let z = id_other j e in
@@ -131,50 +131,50 @@ module _ {L : Layers} {m n : ℕ} {id code : List ℕ} (few : L.cells ≤ 12288)
         (λ (o : (at id j < n) × (at code (at id j) ≡ j)). inr (omega (arith, z), ap (at (set code n i)) z ∙ code_other (at id j) (λ y. omega arith) ∙ o.1))
         (s.each j l)
 
-    sources-more : (c j : ℕ) → Dec (c ≡ i) → c < L.cells → at (set id i n) c < n + 1 → at L.first c ≤ j → j < at L.first (suc c) → 32 ≤ at L.operand j
+    sources_more : (c j : ℕ) → Dec (c ≡ i) → c < L.cells → at (set id i n) c < n + 1 → at L.first c ≤ j → j < at L.first (suc c) → 32 ≤ at L.operand j
         → at (set id i n) (at L.operand j - 32) < at (set id i n) c
-    sources-more c j (yes e) l o a b big =
+    sources_more c j (yes e) l o a b big =
         let x = at L.operand j - 32 in
         let g = ready j (subst (λ v. at L.first v ≤ j) e a) (subst (λ v. j < at L.first (suc v)) e b) big in
-        omega (arith, id_other x (not-this x g), ap (at (set id i n)) e ∙ id-here)
-    sources-more c j (no e) l o a b big =
+        omega (arith, id_other x (not_this x g), ap (at (set id i n)) e ∙ id_here)
+    sources_more c j (no e) l o a b big =
         let x = at L.operand j - 32 in
         let z = id_other c e in
-        let y : at id c < n = numbered-given c l (λ v. omega (arith, room)) in
+        let y : at id c < n = numbered_given c l (λ v. omega (arith, room)) in
         let g = s.sources c j l y a b big in
-        omega (arith, z, id_other x (not-this x (omega arith)))
+        omega (arith, z, id_other x (not_this x (omega arith)))
 
-    lower-more : (c : ℕ) → Dec (c ≡ i) → c < L.cells → at L.span c < m → at (set id i n) c < n + 1
-    lower-more c (yes e) l o = omega (arith, ap (at (set id i n)) e ∙ id-here)
-    lower-more c (no e) l o = omega (arith, id_other c e, s.lower c l o)
+    lower_more : (c : ℕ) → Dec (c ≡ i) → c < L.cells → at L.span c < m → at (set id i n) c < n + 1
+    lower_more c (yes e) l o = omega (arith, ap (at (set id i n)) e ∙ id_here)
+    lower_more c (no e) l o = omega (arith, id_other c e, s.lower c l o)
 
-    level-more : (q : ℕ) → Dec (q ≡ n) → q < n + 1 → at L.span (at (set code n i) q) ≤ m
-    level-more q (yes e) l = omega (arith, ap (at L.span) (ap (at (set code n i)) e ∙ code_here))
-    level-more q (no e) l = omega (arith, ap (at L.span) (code_other q e), s.level q (omega arith))
+    level_more : (q : ℕ) → Dec (q ≡ n) → q < n + 1 → at L.span (at (set code n i) q) ≤ m
+    level_more q (yes e) l = omega (arith, ap (at L.span) (ap (at (set code n i)) e ∙ code_here))
+    level_more q (no e) l = omega (arith, ap (at L.span) (code_other q e), s.level q (omega arith))
 
     pub numbered_more : Numbered L m (n + 1) (set id i n) (set code n i)
     numbered_more = record {
       few = omega (arith, room);
-      id-rows = omega (arith, length-set id i n, s.id-rows);
-      code-rows = omega (arith, length-set code n i, s.code-rows);
-      cell = λ q l. cell-more q (ℕ_discrete q n) l;
+      id_rows = omega (arith, length-set id i n, s.id_rows);
+      code_rows = omega (arith, length-set code n i, s.code_rows);
+      cell = λ q l. cell_more q (ℕ_discrete q n) l;
       number = λ q l. number_more q (ℕ_discrete q n) l;
       each = λ j l. each_more j (ℕ_discrete j i) l;
-      sources = λ c j l o a b big. sources-more c j (ℕ_discrete c i) l o a b big;
-      lower = λ c l o. lower-more c (ℕ_discrete c i) l o;
-      level = λ q l. level-more q (ℕ_discrete q n) l;
+      sources = λ c j l o a b big. sources_more c j (ℕ_discrete c i) l o a b big;
+      lower = λ c l o. lower_more c (ℕ_discrete c i) l o;
+      level = λ q l. level_more q (ℕ_discrete q n) l;
     }
 
     -- From any fewer numbers.
-    pub extended-one : {a : ℕ} {old : List ℕ} → a ≤ n → ((q : ℕ) → q < a → at code q ≡ at old q)
+    pub extended_one : {a : ℕ} {old : List ℕ} → a ≤ n → ((q : ℕ) → q < a → at code q ≡ at old q)
         → Extended L m a (n + 1) old (set id i n) (set code n i)
-    extended-one l kept = record { numbered = numbered_more; more = omega arith; kept = λ q o. code_other q (λ z. omega arith) ∙ kept q o }
+    extended_one l kept = record { numbered = numbered_more; more = omega arith; kept = λ q o. code_other q (λ z. omega arith) ∙ kept q o }
 
-  pub numbered-level : LevelNumbered L m n id → Numbered L (m + 1) n id code
-  numbered-level all = record {
+  pub numbered_level : LevelNumbered L m n id → Numbered L (m + 1) n id code
+  numbered_level all = record {
     few = s.few;
-    id-rows = s.id-rows;
-    code-rows = s.code-rows;
+    id_rows = s.id_rows;
+    code_rows = s.code_rows;
     cell = s.cell;
     number = s.number;
     each = s.each;
@@ -188,35 +188,35 @@ module _ {L : Layers} {m n : ℕ} {id code : List ℕ} (few : L.cells ≤ 12288)
       go i h l (no e) = s.lower i h (omega arith)
 
   -- Cells of lower levels have their numbers, and of this one none is missing.
-  pub numbered-ready : {i r : ℕ} → Layered L → i < L.cells → at L.span i ≡ m → Missing L id i r → 12288 ≤ r
+  pub numbered_ready : {i r : ℕ} → Layered L → i < L.cells → at L.span i ≡ m → Missing L id i r → 12288 ≤ r
       → (j : ℕ) → at L.first i ≤ j → j < at L.first (suc i) → 32 ≤ at L.operand j → at id (at L.operand j - 32) < n
-  numbered-ready {i} v h own g o j a b big =
+  numbered_ready {i} v h own g o j a b big =
       let x = at L.operand j - 32 in
       let l : x < L.cells = omega (arith, v.wired.earlier i j h a b) in
       go l (ℕ_discrete (at L.span x) (at L.span i))
     where
       go : at L.operand j - 32 < L.cells → Dec (at L.span (at L.operand j - 32) ≡ at L.span i) → at id (at L.operand j - 32) < n
-      go l (yes e) = numbered-given (at L.operand j - 32) l (g.none o j a b big e)
+      go l (yes e) = numbered_given (at L.operand j - 32) l (g.none o j a b big e)
       go l (no e) = s.lower (at L.operand j - 32) l (omega (arith, v.above i j h a b big))
 
 -- ── Numbers that were given ─────────────────────────────────────────────────────────────────
 
 module _ {L : Layers} {m : ℕ} where
-  pub extended-same : {n : ℕ} {id code : List ℕ} → Numbered L m n id code → Extended L m n n code id code
-  extended-same s = record { numbered = s; more = omega arith; kept = λ q h. refl }
+  pub extended_same : {n : ℕ} {id code : List ℕ} → Numbered L m n id code → Extended L m n n code id code
+  extended_same s = record { numbered = s; more = omega arith; kept = λ q h. refl }
 
-  pub extended-more : {a b r : ℕ} {old id code ids codes : List ℕ} → Extended L m a b old id code
+  pub extended_more : {a b r : ℕ} {old id code ids codes : List ℕ} → Extended L m a b old id code
       → Extended L m b r code ids codes → Extended L m a r old ids codes
-  extended-more s t = record {
+  extended_more s t = record {
     numbered = t.numbered;
     more = omega (arith, s.more, t.more);
     kept = λ q h. t.kept q (omega (arith, s.more)) ∙ s.kept q h;
   }
 
   -- By the column `code`, which has stayed.
-  pub extended-number : {n r : ℕ} {id code ids codes : List ℕ} (i : ℕ) → L.cells ≤ 12288 → Numbered L m n id code
+  pub extended_number : {n r : ℕ} {id code ids codes : List ℕ} (i : ℕ) → L.cells ≤ 12288 → Numbered L m n id code
       → Extended L m n r code ids codes → i < L.cells → at id i < n → at ids i < r
-  extended-number {n} {r} {id} {code} {ids} {codes} i few s t h l =
+  extended_number {n} {r} {id} {code} {ids} {codes} i few s t h l =
       let e : at code (at id i) ≡ i = ⊎_elim (λ z. absurd (let y : ⊥ = omega (arith, s.few) in y)) (λ z. z.1) (s.each i h) in
       let g = ap (at ids) (sym (t.kept (at id i) l ∙ e)) ∙ t.numbered.number (at id i) (omega (arith, t.more)) in
       omega (arith, g, t.more)

@@ -1,14 +1,14 @@
 -- The program under the new numbers gives the same.
---   mapped-same         what two parts of lists are mapped to, place by place
---   program-wired, program-bits     what the numbering asks of a program
---   operand-old         an operand of a cell is at the same place of the row of its old number
---   new-program         it is a right program
---   new-levelled        its cells are ordered by level
+--   mapped_same         what two parts of lists are mapped to, place by place
+--   program_wired, program_bits     what the numbering asks of a program
+--   operand_old         an operand of a cell is at the same place of the row of its old number
+--   new_program         it is a right program
+--   new_levelled        its cells are ordered by level
 --   value_same          a cell has the value that it had under its old number
---   new-owes, holds-new, holds-old     the dues ask the same of the same cells
---   new-fillable, fills-new, fills-old     the fillings ask for the same cells
---   search-ready        so it can be searched
---   solves-old          the best list is the same
+--   new_owes, holds_new, holds_old     the dues ask the same of the same cells
+--   new_fillable, fills_new, fills_old     the fillings ask for the same cells
+--   search_ready        so it can be searched
+--   solves_old          the best list is the same
 -- Why values are the same, by induction on the new number: an operand is a chosen bit, which stays, or a cell, which has a smaller number.
 use Prim.Native.Nat.{ℕ, zero, suc, ◌+◌, ◌-◌, ◌^◌, ◌/◌, ◌%◌, ◌≤◌, ◌<◌}
 use native.Mathlib.Omega.{arith}
@@ -22,34 +22,34 @@ use lib.Seq.{drop-cons}
 use Rattle.theory.specs.Gate.{gate}
 use Rattle.theory.specs.Move.{digit}
 use Rattle.graph.specs.Columns.{at}
-use Rattle.search.specs.inner.Program.{Program, look, valuesTo, value_at, RightProgram, Owes, GivesDues, Fillable, FillsTo, Fulfils, Solves, Levelled}
+use Rattle.search.specs.inner.Program.{Program, look, values_to, value_at, RightProgram, Owes, GivesDues, Fillable, FillsTo, Fulfils, Solves, Levelled}
 use Rattle.solve.specs.inner.Parts.{OperandsWired, BitsBelow}
 use Rattle.solve.specs.inner.Numbers.{Ranked, ins, renumbered, ProgramRenumbered, Redue, Refill}
-use Rattle.search.proofs.Values.{look-bit, look-cell, values-at, value-gate}
-use Rattle.solve.proofs.Renumbering.{moved-bit, moved-cell, refilled-none, one-filling, renumbered-room}
+use Rattle.search.proofs.Values.{look_bit, look_cell, values_at, value_gate}
+use Rattle.solve.proofs.Renumbering.{moved_bit, moved_cell, refilled_none, one_filling, renumbered_room}
 
-mapped-same : (f g : ℕ → ℕ) (xs ys : List ℕ) (n a b : ℕ) → a + n ≤ length xs → b + n ≤ length ys
+mapped_same : (f g : ℕ → ℕ) (xs ys : List ℕ) (n a b : ℕ) → a + n ≤ length xs → b + n ≤ length ys
     → ((t : ℕ) → t < n → f (at xs (a + t)) ≡ g (at ys (b + t))) → map f (take n (drop a xs)) ≡ map g (take n (drop b ys))
-mapped-same f g xs ys zero a b h l w = refl
-mapped-same f g xs ys (suc n) a b h l w =
+mapped_same f g xs ys zero a b h l w = refl
+mapped_same f g xs ys (suc n) a b h l w =
     rw (drop-cons xs a 0 (omega arith), drop-cons ys b 0 (omega arith))
     (ap₂ ◌∷◌ (here (w 0 (omega arith)))
-    (mapped-same f g xs ys n (suc a) (suc b) (omega arith) (omega arith)
+    (mapped_same f g xs ys n (suc a) (suc b) (omega arith) (omega arith)
     (λ t m. ap (λ i. f (at xs i)) (let z : suc a + t ≡ a + suc t = omega arith in z) ∙ w (suc t) (omega arith) ∙ ap (λ i. g (at ys i)) (let z : b + suc t ≡ suc b + t = omega arith in z))))
   where
     here : f (at xs (a + 0)) ≡ g (at ys (b + 0)) → f (at xs a) ≡ g (at ys b)
     here q = ap (λ i. f (at xs i)) (let z : a ≡ a + 0 = omega arith in z) ∙ q ∙ ap (λ i. g (at ys i)) (let z : b + 0 ≡ b = omega arith in z)
 
-pub program-wired : {cells k : ℕ} {P : Program} → RightProgram cells k P → OperandsWired cells P.first P.operand
-program-wired f = record {
-  few-cells = f.few-cells;
+pub program_wired : {cells k : ℕ} {P : Program} → RightProgram cells k P → OperandsWired cells P.first P.operand
+program_wired f = record {
+  few_cells = f.few_cells;
   first_rows = f.first_rows;
   in_rows = f.in_rows;
   earlier = λ i j h a b. ⊎_elim (λ w. omega (arith, f.few_bits)) (λ w. w.1) (f.earlier i j h a b);
 }
 
-pub program-bits : {cells k : ℕ} {P : Program} → RightProgram cells k P → BitsBelow cells k P.first P.operand
-program-bits f i j h a b l = ⊎_elim (λ w. w) (λ w. omega arith) (f.earlier i j h a b)
+pub program_bits : {cells k : ℕ} {P : Program} → RightProgram cells k P → BitsBelow cells k P.first P.operand
+program_bits f i j h a b l = ⊎_elim (λ w. w) (λ w. omega arith) (f.earlier i j h a b)
 
 module _ {cells k : ℕ} {P Q : Program} {id code levels : List ℕ} (f : RightProgram cells k P) (r : Ranked cells k P.first P.operand id code levels)
     (s : ProgramRenumbered cells P id code Q)
@@ -63,66 +63,66 @@ module _ {cells k : ℕ} {P Q : Program} {id code levels : List ℕ} (f : RightP
   old : ℕ → ℕ → ℕ
   old q j = at P.first (at code q) + (j - at Q.first q)
 
-  old-in : (q j : ℕ) → q < cells → at Q.first q ≤ j → j < at Q.first (suc q) → (at P.first (at code q) ≤ old q j) × (old q j < at P.first (suc (at code q)))
+  old_in : (q j : ℕ) → q < cells → at Q.first q ≤ j → j < at Q.first (suc q) → (at P.first (at code q) ≤ old q j) × (old q j < at P.first (suc (at code q)))
   unfolding old
-  old-in q j h a b = (omega arith, omega (arith, s.counts q h))
+  old_in q j h a b = (omega arith, omega (arith, s.counts q h))
 
-  operand-old : (q j : ℕ) → q < cells → at Q.first q ≤ j → j < at Q.first (suc q) → at Q.operand j ≡ renumbered id (at P.operand (old q j))
+  operand_old : (q j : ℕ) → q < cells → at Q.first q ≤ j → j < at Q.first (suc q) → at Q.operand j ≡ renumbered id (at P.operand (old q j))
   unfolding old
-  operand-old q j h a b =
+  operand_old q j h a b =
       ap (at Q.operand) (let z : j ≡ at Q.first q + (j - at Q.first q) = omega arith in z) ∙ s.same_operand q (j - at Q.first q) h (omega (arith, s.counts q h))
 
-  new-rows : (q : ℕ) → q < cells → at Q.first (suc q) ≤ length Q.operand
-  new-rows q h =
+  new_rows : (q : ℕ) → q < cells → at Q.first (suc q) ≤ length Q.operand
+  new_rows q h =
       omega (
         arith,
         s.counts q h,
-        renumbered-room s q (length Q.operand) (omega arith) h f.rising r.paired fits,
+        renumbered_room s q (length Q.operand) (omega arith) h f.rising r.paired fits,
       )
 
-  new-earlier : (q j : ℕ) → q < cells → at Q.first q ≤ j → j < at Q.first (suc q) → (at Q.operand j < k) ⊎ ((32 ≤ at Q.operand j) × (at Q.operand j < 32 + q))
-  new-earlier q j h a b = go (f.earlier (at code q) (old q j) (cell q h) p.0 p.1)
+  new_earlier : (q j : ℕ) → q < cells → at Q.first q ≤ j → j < at Q.first (suc q) → (at Q.operand j < k) ⊎ ((32 ≤ at Q.operand j) × (at Q.operand j < 32 + q))
+  new_earlier q j h a b = go (f.earlier (at code q) (old q j) (cell q h) p.0 p.1)
     where
       p : (at P.first (at code q) ≤ old q j) × (old q j < at P.first (suc (at code q)))
-      p = old-in q j h a b
+      p = old_in q j h a b
 
       go : (at P.operand (old q j) < k) ⊎ ((32 ≤ at P.operand (old q j)) × (at P.operand (old q j) < 32 + at code q))
           → (at Q.operand j < k) ⊎ ((32 ≤ at Q.operand j) × (at Q.operand j < 32 + q))
-      go (inl w) = inl (let z : at Q.operand j < k = omega (arith, operand-old q j h a b, moved-bit id (at P.operand (old q j)) (omega (arith, f.few_bits))) in z)
+      go (inl w) = inl (let z : at Q.operand j < k = omega (arith, operand_old q j h a b, moved_bit id (at P.operand (old q j)) (omega (arith, f.few_bits))) in z)
       go (inr w) =
-          let e = operand-old q j h a b ∙ moved-cell id (at P.operand (old q j)) w.0 in
+          let e = operand_old q j h a b ∙ moved_cell id (at P.operand (old q j)) w.0 in
           let l = r.sources (at code q) (old q j) (cell q h) p.0 p.1 w.0 in
           inr (omega (arith, e), omega (arith, e, r.paired.number q h))
 
-  new-program : cells ≤ length Q.kind → suc cells ≤ length Q.first → RightProgram cells k Q
-  new-program kind-rows first_rows = record {
+  new_program : cells ≤ length Q.kind → suc cells ≤ length Q.first → RightProgram cells k Q
+  new_program kind_rows first_rows = record {
     few_bits = f.few_bits;
-    few-cells = f.few-cells;
-    kind-rows = kind-rows;
+    few_cells = f.few_cells;
+    kind_rows = kind_rows;
     first_rows = first_rows;
     gates = λ q h. omega (arith, s.same_kind q h, f.gates (at code q) (cell q h));
     rising = λ q h. omega (arith, s.counts q h);
-    few-ins = λ q h. omega (arith, s.counts q h, f.few-ins (at code q) (cell q h));
+    few_ins = λ q h. omega (arith, s.counts q h, f.few_ins (at code q) (cell q h));
     selectors = λ q h e. omega (arith, s.counts q h, f.selectors (at code q) (cell q h) (sym (s.same_kind q h) ∙ e));
-    in_rows = new-rows;
-    earlier = new-earlier;
+    in_rows = new_rows;
+    earlier = new_earlier;
   }
 
-  new-sees : (m q j : ℕ) → m ≤ k → q < at levels (suc m) → at Q.first q ≤ j → j < at Q.first (suc q) → at Q.operand j < 32 → at Q.operand j < m
-  new-sees m q j h l a b w =
+  new_sees : (m q j : ℕ) → m ≤ k → q < at levels (suc m) → at Q.first q ≤ j → j < at Q.first (suc q) → at Q.operand j < 32 → at Q.operand j < m
+  new_sees m q j h l a b w =
       let c : q < cells = omega (arith, r.within (suc m) (omega arith)) in
-      let p = old-in q j c a b in
+      let p = old_in q j c a b in
       go c p.0 p.1 (f.earlier (at code q) (old q j) (cell q c) p.0 p.1)
     where
       go : q < cells → at P.first (at code q) ≤ old q j → old q j < at P.first (suc (at code q))
           → (at P.operand (old q j) < k) ⊎ ((32 ≤ at P.operand (old q j)) × (at P.operand (old q j) < 32 + at code q)) → at Q.operand j < m
       go c u v (inl y) =
           let small : at P.operand (old q j) < 32 = omega (arith, f.few_bits) in
-          omega (arith, operand-old q j c a b, moved-bit id (at P.operand (old q j)) small, r.sees m q (old q j) h l u v small)
-      go c u v (inr y) = absurd (let z : ⊥ = omega (arith, operand-old q j c a b, moved-cell id (at P.operand (old q j)) y.0) in z)
+          omega (arith, operand_old q j c a b, moved_bit id (at P.operand (old q j)) small, r.sees m q (old q j) h l u v small)
+      go c u v (inr y) = absurd (let z : ⊥ = omega (arith, operand_old q j c a b, moved_cell id (at P.operand (old q j)) y.0) in z)
 
-  new-levelled : suc k < length levels → Levelled cells k Q levels
-  new-levelled rows = record { rows = rows; none = r.none; climbs = r.climbs; whole = r.whole; sees = new-sees }
+  new_levelled : suc k < length levels → Levelled cells k Q levels
+  new_levelled rows = record { rows = rows; none = r.none; climbs = r.climbs; whole = r.whole; sees = new_sees }
 
   -- ── The same values ─────────────────────────────────────────────────────────────────────────
 
@@ -130,121 +130,121 @@ module _ {cells k : ℕ} {P Q : Program} {id code levels : List ℕ} (f : RightP
     value : ℕ → ℕ
     value i = value_at P k c i
 
-    new-value : ℕ → ℕ
-    new-value q = value_at Q k c q
+    new_value : ℕ → ℕ
+    new_value q = value_at Q k c q
 
-    look-same : (q t : ℕ) → q < cells → t < ins P.first (at code q) → ((p : ℕ) → p < q → new-value p ≡ value (at code p))
-        → look k c (valuesTo Q k c q) (at Q.operand (at Q.first q + t))
-        ≡ look k c (valuesTo P k c (at code q)) (at P.operand (at P.first (at code q) + t))
-    unfolding value new-value
-    look-same q t h l before =
-        ap (look k c (valuesTo Q k c q)) (s.same_operand q t h l)
+    look_same : (q t : ℕ) → q < cells → t < ins P.first (at code q) → ((p : ℕ) → p < q → new_value p ≡ value (at code p))
+        → look k c (values_to Q k c q) (at Q.operand (at Q.first q + t))
+        ≡ look k c (values_to P k c (at code q)) (at P.operand (at P.first (at code q) + t))
+    unfolding value new_value
+    look_same q t h l before =
+        ap (look k c (values_to Q k c q)) (s.same_operand q t h l)
         ∙ go (f.earlier (at code q) (at P.first (at code q) + t) (cell q h) (omega arith) (omega arith))
       where
         go : (at P.operand (at P.first (at code q) + t) < k) ⊎ ((32 ≤ at P.operand (at P.first (at code q) + t)) × (at P.operand (at P.first (at code q) + t) < 32 + at code q))
-            → look k c (valuesTo Q k c q) (renumbered id (at P.operand (at P.first (at code q) + t)))
-            ≡ look k c (valuesTo P k c (at code q)) (at P.operand (at P.first (at code q) + t))
+            → look k c (values_to Q k c q) (renumbered id (at P.operand (at P.first (at code q) + t)))
+            ≡ look k c (values_to P k c (at code q)) (at P.operand (at P.first (at code q) + t))
         go (inl w) =
             let y = at P.operand (at P.first (at code q) + t) in
             let small : y < 32 = omega (arith, f.few_bits) in
-            ap (look k c (valuesTo Q k c q)) (moved-bit id y small)
-            ∙ look-bit k c (valuesTo Q k c q) y small
-            ∙ sym (look-bit k c (valuesTo P k c (at code q)) y small)
+            ap (look k c (values_to Q k c q)) (moved_bit id y small)
+            ∙ look_bit k c (values_to Q k c q) y small
+            ∙ sym (look_bit k c (values_to P k c (at code q)) y small)
         go (inr w) =
             let y = at P.operand (at P.first (at code q) + t) in
             let n = at id (y - 32) in
             let low : n < q =
             omega (arith, r.sources (at code q) (at P.first (at code q) + t) (cell q h) (omega arith) (omega arith) w.0, r.paired.number q h) in
-            ap (look k c (valuesTo Q k c q)) (moved-cell id y w.0)
-            ∙ look-cell k c (valuesTo Q k c q) (32 + n) (omega arith)
-            ∙ ap (at (valuesTo Q k c q)) (let z : 32 + n - 32 ≡ n = omega arith in z)
-            ∙ values-at Q k c q n low
+            ap (look k c (values_to Q k c q)) (moved_cell id y w.0)
+            ∙ look_cell k c (values_to Q k c q) (32 + n) (omega arith)
+            ∙ ap (at (values_to Q k c q)) (let z : 32 + n - 32 ≡ n = omega arith in z)
+            ∙ values_at Q k c q n low
             ∙ before n low
             ∙ ap (value_at P k c) (r.paired.each (y - 32) (omega (arith, cell q h))).1
-            ∙ sym (values-at P k c (at code q) (y - 32) (omega arith))
-            ∙ sym (look-cell k c (valuesTo P k c (at code q)) y w.0)
+            ∙ sym (values_at P k c (at code q) (y - 32) (omega arith))
+            ∙ sym (look_cell k c (values_to P k c (at code q)) y w.0)
 
-    new-same : (n q : ℕ) → q < n → q < cells → new-value q ≡ value (at code q)
-    unfolding value new-value
-    new-same zero q l h = absurd (let z : ⊥ = omega arith in z)
-    new-same (suc n) q l h =
+    new_same : (n q : ℕ) → q < n → q < cells → new_value q ≡ value (at code q)
+    unfolding value new_value
+    new_same zero q l h = absurd (let z : ⊥ = omega arith in z)
+    new_same (suc n) q l h =
         let i = at code q in
         let z : at Q.first (suc q) - at Q.first q ≡ ins P.first i = omega (arith, s.counts q h) in
-        value-gate Q k c q
-        ∙ ap₂ (λ g m. gate g (map (look k c (valuesTo Q k c q)) (take m (drop (at Q.first q) Q.operand)))) (s.same_kind q h) z
+        value_gate Q k c q
+        ∙ ap₂ (λ g m. gate g (map (look k c (values_to Q k c q)) (take m (drop (at Q.first q) Q.operand)))) (s.same_kind q h) z
         ∙ ap (gate (at P.kind i))
-        (mapped-same (look k c (valuesTo Q k c q)) (look k c (valuesTo P k c i)) Q.operand P.operand (ins P.first i) (at Q.first q) (at P.first i)
-        (omega (arith, s.counts q h, new-rows q h)) (omega (arith, f.rising i (cell q h), f.in_rows i (cell q h)))
-        (λ t m. look-same q t h m (λ p o. new-same n p (omega arith) (omega arith))))
-        ∙ sym (value-gate P k c i)
+        (mapped_same (look k c (values_to Q k c q)) (look k c (values_to P k c i)) Q.operand P.operand (ins P.first i) (at Q.first q) (at P.first i)
+        (omega (arith, s.counts q h, new_rows q h)) (omega (arith, f.rising i (cell q h), f.in_rows i (cell q h)))
+        (λ t m. look_same q t h m (λ p o. new_same n p (omega arith) (omega arith))))
+        ∙ sym (value_gate P k c i)
 
     value_same : (i : ℕ) → i < cells → value_at Q k c (at id i) ≡ value_at P k c i
-    unfolding value new-value
+    unfolding value new_value
     value_same i h =
         let e = r.paired.each i h in
-        new-same (suc (at id i)) (at id i) (omega arith) e.0 ∙ ap (value_at P k c) e.1
+        new_same (suc (at id i)) (at id i) (omega arith) e.0 ∙ ap (value_at P k c) e.1
 
   -- ── The same fillings ───────────────────────────────────────────────────────────────────────
 
   module _ {fill : List ℕ} (fills : List ℕ) (a : Fillable cells k fill) (q : Refill id (length fill) fill fills) (same : length fills ≡ length fill) where
-    new-fillable : Fillable cells k fills
-    new-fillable = record { few = omega arith; cell = λ x h. go x (omega arith) (ℕ_discrete (at fill x) 0) }
+    new_fillable : Fillable cells k fills
+    new_fillable = record { few = omega arith; cell = λ x h. go x (omega arith) (ℕ_discrete (at fill x) 0) }
       where
         go : (x : ℕ) → x < length fill → Dec (at fill x ≡ 0) → at fills x ≤ cells
         go x h (yes z) = omega (arith, (q x h).free z)
         go x h (no z) = omega (arith, (q x h).read (omega arith), a.cell x h, (r.paired.each (at fill x - 1) (omega (arith, a.cell x h))).0)
 
-    fill-value : (c x : ℕ) → x < length fill → 0 < at fill x → value_at Q k c (at fills x - 1) ≡ value_at P k c (at fill x - 1)
-    fill-value c x h l =
+    fill_value : (c x : ℕ) → x < length fill → 0 < at fill x → value_at Q k c (at fills x - 1) ≡ value_at P k c (at fill x - 1)
+    fill_value c x h l =
         let z : at fills x - 1 ≡ at id (at fill x - 1) = omega (arith, (q x h).read l) in
         ap (value_at Q k c) z ∙ value_same c (at fill x - 1) (omega (arith, a.cell x h))
 
-    fills-old : (c : ℕ) → FillsTo k Q fills c → FillsTo k P fill c
-    fills-old c w x h =
-        one-filling (at fills x) (at fill x) (refilled-none (at fill x) (q x h)) (ap (λ n. digit (n + k) c x) same) (λ u. fill-value (c % 2 ^ k) x h) (w x (omega arith))
+    fills_old : (c : ℕ) → FillsTo k Q fills c → FillsTo k P fill c
+    fills_old c w x h =
+        one_filling (at fills x) (at fill x) (refilled_none (at fill x) (q x h)) (ap (λ n. digit (n + k) c x) same) (λ u. fill_value (c % 2 ^ k) x h) (w x (omega arith))
 
-    fills-new : (c : ℕ) → FillsTo k P fill c → FillsTo k Q fills c
-    fills-new c w x h =
+    fills_new : (c : ℕ) → FillsTo k P fill c → FillsTo k Q fills c
+    fills_new c w x h =
         let l : x < length fill = omega arith in
-        one-filling (at fill x) (at fills x) (q x l).free (ap (λ n. digit (n + k) c x) (sym same)) (λ y u. sym (fill-value (c % 2 ^ k) x l y)) (w x l)
+        one_filling (at fill x) (at fills x) (q x l).free (ap (λ n. digit (n + k) c x) (sym same)) (λ y u. sym (fill_value (c % 2 ^ k) x l y)) (w x l)
 
   -- ── The same dues ───────────────────────────────────────────────────────────────────────────
 
   module _ {due begin : List ℕ} {edges : ℕ} (dues : List ℕ) (o : Owes cells due begin edges) (d : Redue id (at begin edges) due dues) where
-    due-cell : (x : ℕ) → x < at begin edges → at dues x / 2 ≡ at id (at due x / 2)
-    due-cell x h = omega (arith, d x h)
+    due_cell : (x : ℕ) → x < at begin edges → at dues x / 2 ≡ at id (at due x / 2)
+    due_cell x h = omega (arith, d x h)
 
-    due-bit : (x : ℕ) → x < at begin edges → at dues x % 2 ≡ at due x % 2
-    due-bit x h = omega (arith, d x h)
+    due_bit : (x : ℕ) → x < at begin edges → at dues x % 2 ≡ at due x % 2
+    due_bit x h = omega (arith, d x h)
 
-    new-owes : at begin edges ≤ length dues → Owes cells dues begin edges
-    new-owes rows = record {
-      begin-rows = o.begin-rows;
-      due-rows = rows;
+    new_owes : at begin edges ≤ length dues → Owes cells dues begin edges
+    new_owes rows = record {
+      begin_rows = o.begin_rows;
+      due_rows = rows;
       few = o.few;
       none = o.none;
       rising = o.rising;
-      cell = λ x h. omega (arith, due-cell x h, r.paired.each (at due x / 2) (o.cell x h));
+      cell = λ x h. omega (arith, due_cell x h, r.paired.each (at due x / 2) (o.cell x h));
     }
 
-    value-due : (c x : ℕ) → x < at begin edges → value_at Q k c (at dues x / 2) ≡ value_at P k c (at due x / 2)
-    value-due c x h = ap (value_at Q k c) (due-cell x h) ∙ value_same c (at due x / 2) (o.cell x h)
+    value_due : (c x : ℕ) → x < at begin edges → value_at Q k c (at dues x / 2) ≡ value_at P k c (at due x / 2)
+    value_due c x h = ap (value_at Q k c) (due_cell x h) ∙ value_same c (at due x / 2) (o.cell x h)
 
-    holds-old : (c : ℕ) → GivesDues k Q dues (at begin edges) c → GivesDues k P due (at begin edges) c
-    holds-old c w x h = sym (due-bit x h) ∙ w x h ∙ value-due c x h
+    holds_old : (c : ℕ) → GivesDues k Q dues (at begin edges) c → GivesDues k P due (at begin edges) c
+    holds_old c w x h = sym (due_bit x h) ∙ w x h ∙ value_due c x h
 
-    holds-new : (c : ℕ) → GivesDues k P due (at begin edges) c → GivesDues k Q dues (at begin edges) c
-    holds-new c w x h = due-bit x h ∙ w x h ∙ sym (value-due c x h)
+    holds_new : (c : ℕ) → GivesDues k P due (at begin edges) c → GivesDues k Q dues (at begin edges) c
+    holds_new c w x h = due_bit x h ∙ w x h ∙ sym (value_due c x h)
 
     module _ {fill : List ℕ} (fills : List ℕ) (a : Fillable cells k fill) (r' : Refill id (length fill) fill fills) (same : length fills ≡ length fill) where
       fulfils : (c : ℕ) → Fulfils k P due (at begin edges) fill c → Fulfils k Q dues (at begin edges) fills c
-      fulfils c v = (holds-new (c % 2 ^ k) v.0, fills-new fills a r' same c v.1)
+      fulfils c v = (holds_new (c % 2 ^ k) v.0, fills_new fills a r' same c v.1)
 
-      pub solves-old : (found : Bool) (c : ℕ) → Solves k Q dues (at begin edges) fills found c → Solves k P due (at begin edges) fill found c
-      solves-old true c w = (rw (← same) w.0, (holds-old (c % 2 ^ k) w.1.0, fills-old fills a r' same c w.1.1), λ e l p v. w.2 e (rw same l) p (fulfils e v))
-      solves-old false c w = λ e l v. w e (rw same l) (fulfils e v)
+      pub solves_old : (found : Bool) (c : ℕ) → Solves k Q dues (at begin edges) fills found c → Solves k P due (at begin edges) fill found c
+      solves_old true c w = (rw (← same) w.0, (holds_old (c % 2 ^ k) w.1.0, fills_old fills a r' same c w.1.1), λ e l p v. w.2 e (rw same l) p (fulfils e v))
+      solves_old false c w = λ e l v. w e (rw same l) (fulfils e v)
 
       -- In the words of `search`, which counts the cells by the end of the last level.
-      pub search-ready : cells ≤ length Q.kind → suc cells ≤ length Q.first → suc k < length levels → at begin edges ≤ length dues
+      pub search_ready : cells ≤ length Q.kind → suc cells ≤ length Q.first → suc k < length levels → at begin edges ≤ length dues
           → let n = at levels (suc k) in RightProgram n k Q × (Levelled n k Q levels × (Owes n dues begin edges × Fillable n k fills))
-      search-ready kind-rows first_rows level-rows due-rows = rw r.whole (new-program kind-rows first_rows, (new-levelled level-rows, (new-owes due-rows, new-fillable fills a r' same)))
+      search_ready kind_rows first_rows level_rows due_rows = rw r.whole (new_program kind_rows first_rows, (new_levelled level_rows, (new_owes due_rows, new_fillable fills a r' same)))

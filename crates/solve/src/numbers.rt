@@ -3,7 +3,7 @@
 ghost use Rattle.std.specs.Prelude.{◌≡◌, ℕ, ◌/◌, ◌≤◌, ◌<◌, length};
 ghost use Rattle.graph.specs.Columns.{at};
 ghost use Rattle.solve.specs.inner.Parts.{OperandsWired};
-ghost use Rattle.solve.specs.inner.Numbers.{layersOf, Layered, Missing, Numbered, Extended, LevelNumbered, CanNumber, Ranked};
+ghost use Rattle.solve.specs.inner.Numbers.{layers_of, Layered, Missing, Numbered, Extended, LevelNumbered, CanNumber, Ranked};
 
 use crate::spans::spans;
 use crate::{CELLS, FEW_CELLS, LEVELS, NONE};
@@ -18,7 +18,7 @@ fn missing(
     i: usize,
 ) -> usize
     requires { OperandsWired cells first.now operand.now × (i < cells) × (cells ≤ length span.now) × (cells ≤ length id.now) }
-    ensures { Missing (layersOf cells first.now operand.now span.now) id.now i result }
+    ensures { Missing (layers_of cells first.now operand.now span.now) id.now i result }
 {
     let end = first[i + 1] as usize;
     let mut j = first[i] as usize;
@@ -45,10 +45,10 @@ fn number_cell(
     id: &mut [u16],
     code: &mut [u16],
 ) -> usize
-    requires layered { Layered (layersOf cells first.now operand.now span.now)
+    requires layered { Layered (layers_of cells first.now operand.now span.now)
         × (cells ≤ length stack.old) × (i < cells) × (at id.old i ≡ 12288) }
-    requires numbered { Numbered (layersOf cells first.now operand.now span.now) (at span.now i) n id.old code.old }
-    ensures extended { Extended (layersOf cells first.now operand.now span.now)
+    requires numbered { Numbered (layers_of cells first.now operand.now span.now) (at span.now i) n id.old code.old }
+    ensures extended { Extended (layers_of cells first.now operand.now span.now)
         (at span.now i) n result code.old id.new code.new }
     ensures lower_bound { at id.new i < result }
 {
@@ -84,9 +84,9 @@ fn number_if(
     id: &mut [u16],
     code: &mut [u16],
 ) -> usize
-    requires layered { Layered (layersOf cells first.now operand.now span.now) × (cells ≤ length stack.old) × (i < cells) }
-    requires numbered { Numbered (layersOf cells first.now operand.now span.now) m n id.old code.old }
-    ensures extended { Extended (layersOf cells first.now operand.now span.now)
+    requires layered { Layered (layers_of cells first.now operand.now span.now) × (cells ≤ length stack.old) × (i < cells) }
+    requires numbered { Numbered (layers_of cells first.now operand.now span.now) m n id.old code.old }
+    ensures extended { Extended (layers_of cells first.now operand.now span.now)
         m n result code.old id.new code.new }
     ensures lower_bound { at span.now i ≡ m → at id.new i < result }
 {
@@ -109,10 +109,10 @@ fn number_due(
     id: &mut [u16],
     code: &mut [u16],
 ) -> usize
-    requires layered { Layered (layersOf cells first.now operand.now span.now) × (cells ≤ length stack.old) }
+    requires layered { Layered (layers_of cells first.now operand.now span.now) × (cells ≤ length stack.old) }
     requires by_index { (x : ℕ) → x < length due.now → at due.now x / 2 < cells }
-    requires numbered { Numbered (layersOf cells first.now operand.now span.now) m n id.old code.old }
-    ensures { Extended (layersOf cells first.now operand.now span.now)
+    requires numbered { Numbered (layers_of cells first.now operand.now span.now) m n id.old code.old }
+    ensures { Extended (layers_of cells first.now operand.now span.now)
         m n result code.old id.new code.new }
 {
     let mut next = n;
@@ -137,11 +137,11 @@ fn number_rest(
     id: &mut [u16],
     code: &mut [u16],
 ) -> usize
-    requires layered { Layered (layersOf cells first.now operand.now span.now) × (cells ≤ length stack.old) }
-    requires numbered { Numbered (layersOf cells first.now operand.now span.now) m n id.old code.old }
-    ensures extended { Extended (layersOf cells first.now operand.now span.now)
+    requires layered { Layered (layers_of cells first.now operand.now span.now) × (cells ≤ length stack.old) }
+    requires numbered { Numbered (layers_of cells first.now operand.now span.now) m n id.old code.old }
+    ensures extended { Extended (layers_of cells first.now operand.now span.now)
         m n result code.old id.new code.new }
-    ensures level_numbered { LevelNumbered (layersOf cells first.now operand.now span.now) m result id.new }
+    ensures level_numbered { LevelNumbered (layers_of cells first.now operand.now span.now) m result id.new }
 {
     let mut next = n;
     let mut i = 0;
@@ -165,12 +165,12 @@ fn number_level(
     id: &mut [u16],
     code: &mut [u16],
 ) -> usize
-    requires layered { Layered (layersOf cells first.now operand.now span.now) × (cells ≤ length stack.old) }
+    requires layered { Layered (layers_of cells first.now operand.now span.now) × (cells ≤ length stack.old) }
     requires by_index { (x : ℕ) → x < length due.now → at due.now x / 2 < cells }
-    requires numbered { Numbered (layersOf cells first.now operand.now span.now) m n id.old code.old }
-    ensures extended { Extended (layersOf cells first.now operand.now span.now)
+    requires numbered { Numbered (layers_of cells first.now operand.now span.now) m n id.old code.old }
+    ensures extended { Extended (layers_of cells first.now operand.now span.now)
         m n result code.old id.new code.new }
-    ensures level_numbered { LevelNumbered (layersOf cells first.now operand.now span.now) m result id.new }
+    ensures level_numbered { LevelNumbered (layers_of cells first.now operand.now span.now) m result id.new }
 {
     let next = number_due(first, operand, span, cells, m, due, n, stack, id, code);
     number_rest(first, operand, span, cells, m, next, stack, id, code)

@@ -11,7 +11,7 @@ use lib.ListN.{length, set}
 use lib.Seq.{get_or-set_same, get_or-set_other}
 use Rattle.theory.specs.Clock.{seen}
 use Rattle.theory.specs.Gate.{gate}
-use Rattle.theory.proofs.clocks.Gate.{gate-bit}
+use Rattle.theory.proofs.clocks.Gate.{gate_bit}
 use Rattle.graph.specs.Columns.{at}
 use Rattle.gates.specs.inner.Gates.{part, evaluated}
 use Rattle.netlist.specs.declared.Netlist.{Netlist}
@@ -19,11 +19,11 @@ use Rattle.netlist.specs.Net.{graph_of, regs_of}
 use Rattle.netlist.proofs.Lowest.{count_low}
 use Rattle.simulate.specs.inner.Ran.{Steppable}
 use Rattle.moves.specs.inner.Labels.{Labelled}
-use Rattle.moves.proofs.Labels.{from-node, low-nodes}
-use Rattle.starts.specs.inner.Ring.{row, quietly, AskedAt, edgeSlot, SlotsOf}
+use Rattle.moves.proofs.Labels.{from_node, low_nodes}
+use Rattle.starts.specs.inner.Ring.{row, quietly, AskedAt, edge_slot, SlotsOf}
 use Rattle.simulate.proofs.Seen.{Entering}
 use Rattle.starts.proofs.Listed.{Listed}
-use Rattle.starts.proofs.Held.{asked-source, shows, Held, held-put, held_on, node-right}
+use Rattle.starts.proofs.Held.{asked_source, shows, Held, held_put, held_on, node_right}
 
 module _ (net : Netlist) (lab : List ℕ) (ok : Steppable net) (m : Labelled net lab) (ins first : List ℕ) (en : Entering net ins first) (s : ℕ) (list : List ℕ) (n : ℕ) (w : Listed net lab s list n)
     (near : (i : ℕ) → i < n → s / 32 * 32 + at lab (at list i) < 16384)
@@ -33,11 +33,11 @@ module _ (net : Netlist) (lab : List ℕ) (ok : Steppable net) (m : Labelled net
   Done i ring = (j : ℕ) → j < i → AskedAt lab s (at list j) → at ring (row s + at list j) ≡ quietly net (at list j) s
 
   -- The source of an edge without a register is an earlier node of the list; another edge shows one of the last 32 values, or a start value.
-  edge-right : (ring : List ℕ) (i e : ℕ) → Held net lab s ring → Done i ring → i < n → e < net.edges → at net.to e ≡ at list i → AskedAt lab s (at list i)
-      → at ring (edgeSlot net.from net.count net.start s e) ≡ seen (graph_of net) (regs_of net) (quietly net) e s
-  edge-right ring i e held done h l q a =
+  edge_right : (ring : List ℕ) (i e : ℕ) → Held net lab s ring → Done i ring → i < n → e < net.edges → at net.to e ≡ at list i → AskedAt lab s (at list i)
+      → at ring (edge_slot net.from net.count net.start s e) ≡ seen (graph_of net) (regs_of net) (quietly net) e s
+  edge_right ring i e held done h l q a =
       shows net ring held.zeroth held.one s e
-      (λ t r. go t r (asked-source net lab m e s t l (subst (AskedAt lab s) (sym q) a) r) (ℕ_discrete (at net.count e) 0))
+      (λ t r. go t r (asked_source net lab m e s t l (subst (AskedAt lab s) (sym q) a) r) (ℕ_discrete (at net.count e) 0))
     where
       u : ℕ
       u = at net.from e
@@ -45,10 +45,10 @@ module _ (net : Netlist) (lab : List ℕ) (ok : Steppable net) (m : Labelled net
       go : (t : ℕ) → at net.count e + t ≡ s → AskedAt lab t u → Dec (at net.count e ≡ 0) → at ring (row t + u) ≡ quietly net u t
       go t r b (yes z) =
           let k : s ≡ t = omega arith in
-          let p = w.sources-first i e h l q z (subst (λ x. AskedAt lab x u) (sym k) b) in
+          let p = w.sources_first i e h l q z (subst (λ x. AskedAt lab x u) (sym k) b) in
           subst (λ x. at ring (row x + u) ≡ quietly net u x) k
           (subst (λ v. at ring (row s + v) ≡ quietly net v s) p.holds (done p.place p.within (subst (AskedAt lab s) (sym p.holds) (subst (λ x. AskedAt lab x u) (sym k) b))))
-      go t r b (no z) = held.past u t (from-node net lab m e l) (omega arith) b (omega (arith, count_low net ok.fit e l))
+      go t r b (no z) = held.past u t (from_node net lab m e l) (omega arith) b (omega (arith, count_low net ok.fit e l))
 
   -- What the gate makes of the slots.
   abbrev given : List ℕ → ℕ → ℕ
@@ -57,7 +57,7 @@ module _ (net : Netlist) (lab : List ℕ) (ok : Steppable net) (m : Labelled net
   held_more : (ring : List ℕ) (i : ℕ) → i < n → Held net lab s ring → Done i ring
       → let new = set ring (row s + at list i) (given ring (at list i)) in Held net lab s new × Done (suc i) new
   held_more ring i h held done = (
-    held-put net lab m s ring held s v x (omega arith) (omega arith) low (near i h) (gate-bit (at net.kind v) (map (at ring) (part slots (at first v) (at first (suc v))))),
+    held_put net lab m s ring held s v x (omega arith) (omega arith) low (near i h) (gate_bit (at net.kind v) (map (at ring) (part slots (at first v) (at first (suc v))))),
     λ j k a. last j k a (ℕ_discrete (at list j) v) (ℕ_discrete j i),
   )
     where
@@ -65,7 +65,7 @@ module _ (net : Netlist) (lab : List ℕ) (ok : Steppable net) (m : Labelled net
       v = at list i
 
       low : v < 512
-      low = omega (arith, w.nodes-only i h, low-nodes net lab m)
+      low = omega (arith, w.nodes_only i h, low_nodes net lab m)
 
       here : ℕ
       here = row s + v
@@ -77,8 +77,8 @@ module _ (net : Netlist) (lab : List ℕ) (ok : Steppable net) (m : Labelled net
       last j k a (yes z) d =
           subst (λ u. at (set ring here x) (row s + u) ≡ quietly net u s) (sym z)
           (get_or-set_same ring here x 0 (let y : here < length ring = omega (arith, low, held.size) in y)
-          ∙ node-right net lab ok m ins first en slots ring rows size s v (w.nodes-only i h) (subst (AskedAt lab s) z a) (right i h)
-          (λ e l q. edge-right ring i e held done h l q (subst (AskedAt lab s) z a)))
+          ∙ node_right net lab ok m ins first en slots ring rows size s v (w.nodes_only i h) (subst (AskedAt lab s) z a) (right i h)
+          (λ e l q. edge_right ring i e held done h l q (subst (AskedAt lab s) z a)))
       last j k a (no z) (yes d) = absurd (z (ap (at list) d))
       last j k a (no z) (no d) =
           get_or-set_other ring here (row s + at list j) x 0 (let y : ¬ (row s + at list j ≡ here) = λ q. z (omega arith) in y) ∙ done j (omega arith) a

@@ -1,8 +1,8 @@
 -- The new start values of an edge: the chosen ones, and those that the ring shows.
---   chosen-found        the chosen ones are its first new start values
+--   chosen_found        the chosen ones are its first new start values
 --   fillable            what filling up the word asks
---   shown-found         the others stand in the ring
---   moved-is            the netlist with the new counts and start values is the moved one
+--   shown_found         the others stand in the ring
+--   moved_is            the netlist with the new counts and start values is the moved one
 use Prim.Native.Nat.{ℕ, ◌+◌, ◌*◌, ◌-◌, ◌^◌, ◌≤◌, ◌<◌, min}
 use native.Mathlib.Omega.{arith}
 use mathlib.Core.Path.{◌≡◌, sym, subst, ap, ap₂, ◌∙◌}
@@ -14,42 +14,42 @@ use Rattle.theory.proofs.numbers.Sums.{sum_same}
 use Rattle.graph.specs.Columns.{at}
 use Rattle.gates.specs.inner.Gates.{AllBits}
 use Rattle.netlist.specs.declared.Netlist.{Netlist}
-use Rattle.netlist.specs.Net.{withColumns, graph_of, regs_of}
-use Rattle.netlist.specs.inner.Words.{retimedAt}
+use Rattle.netlist.specs.Net.{with_columns, graph_of, regs_of}
+use Rattle.netlist.specs.inner.Words.{retimed_at}
 use Rattle.netlist.proofs.Lowest.{count_low}
-use Rattle.lags.proofs.Laws.{lag-label, lag-up}
-use Rattle.moves.specs.inner.Labels.{lagsOf, chosenAt}
+use Rattle.lags.proofs.Laws.{lag_label, lag_up}
+use Rattle.moves.specs.inner.Labels.{lags_of, chosen_at}
 use Rattle.moves.specs.inner.Moving.{Moving}
-use Rattle.moves.specs.inner.Chosen.{chosenWord}
-use Rattle.moves.specs.Moved.{word_of, movedNet}
+use Rattle.moves.specs.inner.Chosen.{chosen_word}
+use Rattle.moves.specs.Moved.{word_of, moved_net}
 use Rattle.moves.specs.inner.Columns.{Filled, none}
-use Rattle.moves.proofs.Labels.{from-node, low-edges, low-nodes, new-fits, new_is}
-use Rattle.moves.proofs.Moved.{with-is}
+use Rattle.moves.proofs.Labels.{from_node, low_edges, low_nodes, new_fits, new_is}
+use Rattle.moves.proofs.Moved.{with_is}
 use Rattle.starts.specs.inner.Ring.{Followed}
-use Rattle.starts.specs.inner.Starts.{start_at, shownSlot, startsAt}
-use Rattle.starts.proofs.Quiet.{new-chosen, new-seen}
+use Rattle.starts.specs.inner.Starts.{start_at, shown_slot, starts_at}
+use Rattle.starts.proofs.Quiet.{new_chosen, new_seen}
 use Rattle.starts.proofs.Held.{shows}
 
-module _ (net : Netlist) (lab counts : List ℕ) (m : Moving net lab counts) (e : ℕ) (h : e < net.edges) (chosen : ℕ) (is : chosen ≡ chosenAt net lab e) where
+module _ (net : Netlist) (lab counts : List ℕ) (m : Moving net lab counts) (e : ℕ) (h : e < net.edges) (chosen : ℕ) (is : chosen ≡ chosen_at net lab e) where
   many : chosen ≡ min (at counts e) (at lab (at net.to e) - 16384)
-  many = is ∙ ap₂ min (sym (m.counted e h)) (lag-up (at lab (at net.to e)))
+  many = is ∙ ap₂ min (sym (m.counted e h)) (lag_up (at lab (at net.to e)))
 
   -- Those at the clocks below the lag.
-  pub chosen-found : (c word : ℕ) → word ≡ chosenWord net (lagsOf lab) c e → word ≡ word_of (start_at net lab c e) chosen
-  chosen-found c word q =
+  pub chosen_found : (c word : ℕ) → word ≡ chosen_word net (lags_of lab) c e → word ≡ word_of (start_at net lab c e) chosen
+  chosen_found c word q =
       q
-      ∙ sum_same _ _ (chosenAt net lab e) (λ t l. ap (λ x. x * 2 ^ t) (sym (new-chosen gate (graph_of net) (regs_of net) (lagsOf lab) c e t (omega (arith, l)))))
+      ∙ sum_same _ _ (chosen_at net lab e) (λ t l. ap (λ x. x * 2 ^ t) (sym (new_chosen gate (graph_of net) (regs_of net) (lags_of lab) c e t (omega (arith, l)))))
       ∙ ap (word_of (start_at net lab c e)) (sym is)
 
   -- What filling the word up asks.
-  pub fillable : (word : ℕ) (ring : List ℕ) → word < 2 ^ chosenAt net lab e → 32770 ≤ length ring → Followed net lab ring
+  pub fillable : (word : ℕ) (ring : List ℕ) → word < 2 ^ chosen_at net lab e → 32770 ≤ length ring → Followed net lab ring
       → ((chosen ≤ at counts e) × (at counts e ≤ 32) × (chosen < at counts e → at lab (at net.to e) ≤ chosen + 16384))
       × ((word < 2 ^ chosen) × (at net.from e < 512) × (at net.count e ≤ 32) × (32770 ≤ length ring) × AllBits ring)
   fillable word ring s l f = (
     (omega (arith, many), m.narrow e h, λ y. omega (arith, many)),
     (
       subst (λ n. word < 2 ^ n) (sym is) s,
-      omega (arith, from-node net lab m.labelled e h, low-nodes net lab m.labelled),
+      omega (arith, from_node net lab m.labelled e h, low_nodes net lab m.labelled),
       count_low net m.labelled.fit e h,
       l,
       f.bits,
@@ -57,11 +57,11 @@ module _ (net : Netlist) (lab counts : List ℕ) (m : Moving net lab counts) (e 
   )
 
   -- New start value t is what the edge shows in clock t − r(v): a start value, or its source's value at one of the last 32 clocks at which that is asked for.
-  pub shown-found : (c : ℕ) (ring : List ℕ) → Followed net lab ring → (t : ℕ) → chosen ≤ t → t < at counts e
-      → at ring (shownSlot (at net.from e) (at net.count e) (at net.start e) (at lab (at net.to e)) t) ≡ start_at net lab c e t
-  shown-found c ring f t a b =
-      shows net ring f.zeroth f.one s e (λ i q. f.last u i (from-node net lab m.labelled e h) (omega (arith, late, moves)) (omega (arith, late, moves, m.narrow e h)))
-      ∙ sym (new-seen gate (graph_of net) (regs_of net) (lagsOf lab) c e t s (omega (arith, late, lag-label v)))
+  pub shown_found : (c : ℕ) (ring : List ℕ) → Followed net lab ring → (t : ℕ) → chosen ≤ t → t < at counts e
+      → at ring (shown_slot (at net.from e) (at net.count e) (at net.start e) (at lab (at net.to e)) t) ≡ start_at net lab c e t
+  shown_found c ring f t a b =
+      shows net ring f.zeroth f.one s e (λ i q. f.last u i (from_node net lab m.labelled e h) (omega (arith, late, moves)) (omega (arith, late, moves, m.narrow e h)))
+      ∙ sym (new_seen gate (graph_of net) (regs_of net) (lags_of lab) c e t s (omega (arith, late, lag_label v)))
     where
       u : ℕ
       u = at net.from e
@@ -77,15 +77,15 @@ module _ (net : Netlist) (lab counts : List ℕ) (m : Moving net lab counts) (e 
 
       moves : at counts e + at lab u ≡ at net.count e + v
       moves =
-          let l = new-fits net lab m.labelled e h in
+          let l = new_fits net lab m.labelled e h in
           omega (arith, m.counted e h, new_is net lab m.labelled e h (at net.count e + v - at lab u) (omega arith))
 
 -- ── The moved netlist ───────────────────────────────────────────────────────────────────────
 
-pub moved-is : (net : Netlist) (lab counts : List ℕ) (c : ℕ) → Moving net lab counts → (bytes words : List ℕ) → length bytes ≡ 1024 → length words ≡ 1024
-    → Filled (at counts) none net.edges bytes → Filled (startsAt net lab counts c) none net.edges words → withColumns net bytes words ≡ movedNet net (lagsOf lab) c
-unfolding movedNet move
-moved-is net lab counts c m bytes words p q a b =
-    sym (with-is net (retimedAt net (lagsOf lab) c) bytes words (low-edges net lab m.labelled) p q
+pub moved_is : (net : Netlist) (lab counts : List ℕ) (c : ℕ) → Moving net lab counts → (bytes words : List ℕ) → length bytes ≡ 1024 → length words ≡ 1024
+    → Filled (at counts) none net.edges bytes → Filled (starts_at net lab counts c) none net.edges words → with_columns net bytes words ≡ moved_net net (lags_of lab) c
+unfolding moved_net move
+moved_is net lab counts c m bytes words p q a b =
+    sym (with_is net (retimed_at net (lags_of lab) c) bytes words (low_edges net lab m.labelled) p q
     (record { rows = λ e h. a.rows e h ∙ m.counted e h; past = a.past })
     (record { rows = λ e h. b.rows e h ∙ ap (word_of (start_at net lab c e)) (m.counted e h); past = b.past }))

@@ -5,7 +5,7 @@ ghost use Rattle.std.specs.Prelude.{◌≡◌, false, true, List, ℕ, ◌+◌, 
 ghost use Rattle.graph.specs.Columns.{at};
 ghost use Rattle.gates.specs.inner.Gates.{AllBits, Reckons, Table, InputRows, Evaluable, Truths};
 ghost use Rattle.starts.specs.inner.Ring.{row, further};
-ghost use Rattle.starts.specs.inner.Ahead.{Clocked, ahead, allAhead, Places, LeadsOn, Strides, Taken};
+ghost use Rattle.starts.specs.inner.Ahead.{Clocked, ahead, all_ahead, Places, LeadsOn, Strides, Taken};
 
 use gates::{evaluate, value};
 use graph::NODES;
@@ -115,7 +115,7 @@ fn evaluate_ahead(
     ring: &mut [u8],
 )
     requires { Evaluable node.now truth.now index.now first.now slots.now gates (base + 15872) ring.old × (32768 ≤ length ring.old) }
-    ensures { (kind : List ℕ) → Truths kind node.now truth.now first.now gates → ring.new ≡ allAhead kind node.now first.now slots.now base gates ring.old }
+    ensures { (kind : List ℕ) → Truths kind node.now truth.now first.now gates → ring.new ≡ all_ahead kind node.now first.now slots.now base gates ring.old }
 {
     let mut i = 0;
     while i < gates {

@@ -3,13 +3,13 @@
 ghost use Rattle.std.specs.Prelude.{◌≡◌, ℕ, ◌+◌, ◌^◌, ◌≤◌, ◌<◌, length};
 ghost use Rattle.graph.specs.Columns.{at};
 ghost use Rattle.gates.specs.inner.Gates.{AllBits};
-ghost use Rattle.moves.specs.inner.Labels.{lagsOf};
+ghost use Rattle.moves.specs.inner.Labels.{lags_of};
 ghost use Rattle.moves.specs.inner.Moving.{Moving};
 ghost use Rattle.moves.specs.inner.Chosen.{EdgeWords, ShortWords};
-ghost use Rattle.moves.specs.Moved.{word_of, movedNet};
-ghost use Rattle.netlist.specs.Net.{withColumns};
+ghost use Rattle.moves.specs.Moved.{word_of, moved_net};
+ghost use Rattle.netlist.specs.Net.{with_columns};
 ghost use Rattle.moves.specs.inner.Columns.{Filled, none};
-ghost use Rattle.starts.specs.inner.Starts.{shownSlot, startsAt};
+ghost use Rattle.starts.specs.inner.Starts.{shown_slot, starts_at};
 
 use crate::BIAS;
 use crate::ring::{ring_of, slot};
@@ -31,7 +31,7 @@ fn filled(
 ) -> u32
     requires chosen_le_count { (chosen ≤ count) × (count ≤ 32) × (chosen < count → label ≤ chosen + 16384) }
     requires word_bound { (word < 2 ^ chosen) × (from < 512) × (w ≤ 32) × (32770 ≤ length ring.now) × AllBits ring.now }
-    ensures { (f : ℕ → ℕ) → word ≡ word_of f chosen → ((t : ℕ) → chosen ≤ t → t < count → at ring.now (shownSlot from w start label t) ≡ f t) → result ≡ word_of f count }
+    ensures { (f : ℕ → ℕ) → word ≡ word_of f chosen → ((t : ℕ) → chosen ≤ t → t < count → at ring.now (shown_slot from w start label t) ≡ f t) → result ≡ word_of f count }
 {
     let mut new = word;
     let mut t = chosen;
@@ -45,8 +45,8 @@ fn filled(
 
 // The new start values, as words: the chosen ones, then those that the original shows.
 fn starts_of(net: Netlist, lab: &[u32], counts: &[u32], words: &[u32]) -> [u32; EDGES]
-    requires { Moving net lab.now counts.now × ShortWords net (lagsOf lab.now) words.now }
-    ensures { (c : ℕ) → EdgeWords net (lagsOf lab.now) c words.now → Filled (startsAt net lab.now counts.now c) none net.edges result }
+    requires { Moving net lab.now counts.now × ShortWords net (lags_of lab.now) words.now }
+    ensures { (c : ℕ) → EdgeWords net (lags_of lab.now) c words.now → Filled (starts_at net lab.now counts.now c) none net.edges result }
 {
     let edges = net.edges as usize;
     let ring = ring_of(net, lab);
@@ -72,7 +72,7 @@ fn starts_of(net: Netlist, lab: &[u32], counts: &[u32], words: &[u32]) -> [u32; 
 
 // The netlist with other counts and start values.
 fn with_columns(net: Netlist, count: [u8; EDGES], start: [u32; EDGES]) -> Netlist
-    ensures { result ≡ withColumns net count start }
+    ensures { result ≡ with_columns net count start }
 {
     let mut new = net;
     new.count = count;
@@ -83,8 +83,8 @@ fn with_columns(net: Netlist, count: [u8; EDGES], start: [u32; EDGES]) -> Netlis
 // "Moved by lags and a choice, a netlist keeps its head, its nodes and the ends of its edges, and each edge gets its new count and new start values."
 // The choice comes as words: of each edge its chosen values, bit t for clock t.
 pub fn moved(net: Netlist, lab: &[u32], counts: &[u32], words: &[u32]) -> Netlist
-    requires { Moving net lab.now counts.now × ShortWords net (lagsOf lab.now) words.now }
-    ensures { (c : ℕ) → EdgeWords net (lagsOf lab.now) c words.now → result ≡ movedNet net (lagsOf lab.now) c }
+    requires { Moving net lab.now counts.now × ShortWords net (lags_of lab.now) words.now }
+    ensures { (c : ℕ) → EdgeWords net (lags_of lab.now) c words.now → result ≡ moved_net net (lags_of lab.now) c }
 {
     let edges = net.edges as usize;
     let count = bytes_of(counts, edges);

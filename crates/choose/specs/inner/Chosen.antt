@@ -1,6 +1,6 @@
 -- The answer: the chosen start values as words, one for each edge.
 --   Rises               the values of the edges stand one after the other, below k
---   runWord             the values of the number c of k digits from value `start` up to `end`, as a word: the first one lowest
+--   run_word            the values of the number c of k digits from value `start` up to `end`, as a word: the first one lowest
 --   RunWords            so of each edge
 --   BestWords           the words of the number that is taken
 --   Chosen              they are found, or no choice carries the start
@@ -15,16 +15,16 @@ use Rattle.moves.specs.inner.Chosen.{EdgeWords}
 abbrev pub Rises : List ℕ → ℕ → ℕ → Type 0
 Rises base edges k = (e : ℕ) → e < edges → (at base e ≤ at base (e + 1)) × (at base (e + 1) ≤ k)
 
-abbrev pub runWord : ℕ → ℕ → ℕ → ℕ → ℕ
-runWord c k start end = word_of (λ t. digit k c (start + t)) (end - start)
+abbrev pub run_word : ℕ → ℕ → ℕ → ℕ → ℕ
+run_word c k start end = word_of (λ t. digit k c (start + t)) (end - start)
 
 abbrev pub RunWords : ℕ → ℕ → List ℕ → ℕ → List ℕ → Type 0
-RunWords c k base edges words = (e : ℕ) → e < edges → at words e ≡ runWord c k (at base e) (at base (e + 1))
+RunWords c k base edges words = (e : ℕ) → e < edges → at words e ≡ run_word c k (at base e) (at base (e + 1))
 
 pub record BestWords (net : Netlist) (r : ℕ → ℤ) (words : List ℕ) : Type 0 where
   pub number : ℕ
   pub best : BestAt net r number
-  pub its-words : EdgeWords net r number words
+  pub its_words : EdgeWords net r number words
 
 abbrev pub Chosen : Netlist → (ℕ → ℤ) → Bool → List ℕ → Type 0
 Chosen net r true words = BestWords net r words

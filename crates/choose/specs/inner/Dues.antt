@@ -1,7 +1,7 @@
 -- What is due of the cells: the old start values that the moved netlist has to carry. A due is the number 2 i + x: cell i must give x.
 --   cell_at             the cell of node v at clock t
 --   Carry               the old value s of edge e is to be carried: the node that e leaves gives it at clock t
---   dueOf               that value as a due
+--   due_of              that value as a due
 --   Owed, Dues          the first dues are those of the values that are to be carried: nothing else, and all of them
 --   due_at              the same due, by the numbers that it is made of
 --   Celled              each node has a cell for each clock below its lag
@@ -22,19 +22,19 @@ pub record Carry (net : Netlist) (lag : ℕ → ℕ) (e s t : ℕ) : Type 0 wher
   pub old : s < at net.count e
   pub clock : t + at net.count e ≡ s + lag (at net.from e)
 
-abbrev pub dueOf : Netlist → (ℕ → ℕ → ℕ) → ℕ → ℕ → ℕ → ℕ
-dueOf net cell e s t = cell (at net.from e) t * 2 + bit (at net.start e) s
+abbrev pub due_of : Netlist → (ℕ → ℕ → ℕ) → ℕ → ℕ → ℕ → ℕ
+due_of net cell e s t = cell (at net.from e) t * 2 + bit (at net.start e) s
 
 pub record Owed (net : Netlist) (lag : ℕ → ℕ) (cell : ℕ → ℕ → ℕ) (due : ℕ) : Type 0 where
   pub edge : ℕ
   pub old : ℕ
   pub clock : ℕ
   pub carry : Carry net lag edge old clock
-  pub is : due ≡ dueOf net cell edge old clock
+  pub is : due ≡ due_of net cell edge old clock
 
 pub record Dues (net : Netlist) (lag : ℕ → ℕ) (cell : ℕ → ℕ → ℕ) (due : List ℕ) (total : ℕ) : Type 0 where
   pub sound : (x : ℕ) → x < total → Owed net lag cell (at due x)
-  pub complete : (e s t : ℕ) → Carry net lag e s t → Stands due total (dueOf net cell e s t)
+  pub complete : (e s t : ℕ) → Carry net lag e s t → Stands due total (due_of net cell e s t)
 
 abbrev pub due_at : List ℕ → ℕ → ℕ → ℕ → ℕ → ℕ → ℕ
 due_at id v lag count values s = cell_at id v (s + lag - count) * 2 + bit values s
@@ -50,12 +50,12 @@ pub record DuesTo (net : Netlist) (lag : ℕ → ℕ) (id along : List ℕ) (low
   pub last : at begin rows ≡ total
   pub few : total ≤ 1024 * low + n * (high - low)
   pub sound : (x : ℕ) → x < total → Owed net lag (cell_at id) (at due x)
-  pub complete : (j s t : ℕ) → j < net.edges → t < high → (n ≤ j → t < low) → Carry net lag (at along j) s t → Stands due total (dueOf net (cell_at id) (at along j) s t)
+  pub complete : (j s t : ℕ) → j < net.edges → t < high → (n ≤ j → t < low) → Carry net lag (at along j) s t → Stands due total (due_of net (cell_at id) (at along j) s t)
 
 pub record FewRows (low rows : ℕ) : Type 0 where
-  pub at-0 : low < 1 → rows ≤ 0
-  pub to-1 : low < 3 → rows ≤ 1024
-  pub to-3 : low < 7 → rows ≤ 2048
-  pub to-7 : low < 15 → rows ≤ 3072
-  pub to-15 : low < 24 → rows ≤ 4096
-  pub to-24 : rows ≤ 5120
+  pub at_0 : low < 1 → rows ≤ 0
+  pub to_1 : low < 3 → rows ≤ 1024
+  pub to_3 : low < 7 → rows ≤ 2048
+  pub to_7 : low < 15 → rows ≤ 3072
+  pub to_15 : low < 24 → rows ≤ 4096
+  pub to_24 : rows ≤ 5120

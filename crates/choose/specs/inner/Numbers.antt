@@ -1,5 +1,5 @@
 -- The cells, numbered clock by clock and within a clock in evaluation order. The cell of node v at clock t has the code 32 v + t.
---   lagAt               a node's lag where it is positive, else 0
+--   lag_at              a node's lag where it is positive, else 0
 --   LagsBelow           so many clocks, 24 at most, and no lag of the first nodes is above them
 --   Arranged            an order of the nodes, each once
 --   EarlierCell         node v at clock s comes before place p of clock t
@@ -8,20 +8,20 @@ use Rattle.std.specs.Prelude.{◌≡◌, ◌⊎◌, List, ℕ, ◌+◌, ◌*◌,
 use Rattle.theory.specs.Lag.{up}
 use Rattle.graph.specs.Columns.{at}
 use Rattle.graph.specs.inner.Sort.{Stands}
-use Rattle.moves.specs.inner.Labels.{lagsOf}
+use Rattle.moves.specs.inner.Labels.{lags_of}
 
-abbrev pub lagAt : List ℕ → ℕ → ℕ
-lagAt lab v = up (lagsOf lab v)
+abbrev pub lag_at : List ℕ → ℕ → ℕ
+lag_at lab v = up (lags_of lab v)
 
 pub record LagsBelow (lab : List ℕ) (nodes clocks : ℕ) : Type 0 where
   pub few : clocks ≤ 24
-  pub low : (v : ℕ) → v < nodes → lagAt lab v ≤ clocks
+  pub low : (v : ℕ) → v < nodes → lag_at lab v ≤ clocks
 
 pub record Arranged (order : List ℕ) (nodes : ℕ) : Type 0 where
   pub few : nodes ≤ 512
   pub rows : nodes ≤ length order
-  pub nodes-only : (p : ℕ) → p < nodes → at order p < nodes
-  pub every-node : (v : ℕ) → v < nodes → Stands order nodes v
+  pub nodes_only : (p : ℕ) → p < nodes → at order p < nodes
+  pub every_node : (v : ℕ) → v < nodes → Stands order nodes v
   pub once : (p q : ℕ) → p < q → q < nodes → ¬ (at order p ≡ at order q)
 
 abbrev pub EarlierCell : List ℕ → ℕ → ℕ → ℕ → ℕ → Type 0
@@ -39,8 +39,8 @@ pub record CellNumbered (lag : ℕ → ℕ) (order : List ℕ) (nodes : ℕ) (id
 
 pub record CellsNumbered (lag : ℕ → ℕ) (order : List ℕ) (nodes t p n : ℕ) (id code : List ℕ) : Type 0 where
   pub few : n ≤ t * 512 + p
-  pub id-rows : length id ≡ 16384
-  pub code-rows : length code ≡ 12288
+  pub id_rows : length id ≡ 16384
+  pub code_rows : length code ≡ 12288
   pub inside : (v s : ℕ) → v < nodes → s < lag v → EarlierCell order t p v s → at id (v * 32 + s) < n
   pub back : (v s : ℕ) → v < nodes → s < lag v → EarlierCell order t p v s → at code (at id (v * 32 + s)) ≡ v * 32 + s
   pub each : (i : ℕ) → i < n → CellNumbered lag order nodes id code t p i

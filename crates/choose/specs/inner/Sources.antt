@@ -1,5 +1,5 @@
 -- The operands of the cells, and their kinds.
---   sourceAt            what an edge shows at clock t: a chosen value, or a cell
+--   source_at           what an edge shows at clock t: a chosen value, or a cell
 --   SourceRows          the rows that it is read from are there
 --   width_at            how many operands a cell has
 --   OperandRows         a cell's operands can be read
@@ -8,13 +8,13 @@ use Rattle.std.specs.Prelude.{◌≡◌, cond, List, ℕ, ◌+◌, ◌*◌, ◌-
 use Rattle.theory.specs.Move.{sum}
 use Rattle.graph.specs.Columns.{at}
 
-unfoldable pub sourceAt : List ℕ → List ℕ → List ℕ → List ℕ → ℕ → ℕ → ℕ
-sourceAt from counts base id t e = cond (ltb t (at counts e)) (at base e + t) (32 + at id (at from e * 32 + (t - at counts e)))
+unfoldable pub source_at : List ℕ → List ℕ → List ℕ → List ℕ → ℕ → ℕ → ℕ
+source_at from counts base id t e = cond (ltb t (at counts e)) (at base e + t) (32 + at id (at from e * 32 + (t - at counts e)))
 
 pub record SourceRows (from counts base id : List ℕ) (t e : ℕ) : Type 0 where
   pub from_row : e < length from
-  pub count-row : e < length counts
-  pub base-row : e < length base
+  pub count_row : e < length counts
+  pub base_row : e < length base
   pub low : at base e ≤ 32768
   pub node : at from e < 512
   pub cell : at counts e ≤ t → at id (at from e * 32 + (t - at counts e)) < 12288
@@ -31,4 +31,4 @@ pub record OperandRows (from ins begin counts base id code : List ℕ) (i : ℕ)
 pub record Operands (from ins begin counts base id code : List ℕ) (n : ℕ) (first operand : List ℕ) : Type 0 where
   pub begins : (i : ℕ) → i < n + 1 → at first i ≡ sum (width_at begin code) i
   pub shown : (i : ℕ) → i < n → (k : ℕ) → k < width_at begin code i
-      → at operand (sum (width_at begin code) i + k) ≡ sourceAt from counts base id (at code i % 32) (at ins (at begin (at code i / 32) + k))
+      → at operand (sum (width_at begin code) i + k) ≡ source_at from counts base id (at code i % 32) (at ins (at begin (at code i / 32) + k))

@@ -3,7 +3,7 @@
 use Rattle.std.proofs.Common.{drop, length-drop, arith, sym, ◌∙◌}
 use borrow.Author.Tests.{lt-leb}
 use Rattle.frame.specs.inner.Decoded.{framed}
-use Rattle.frame.proofs.Steps.{frame-short, framed-as, kind-same, kind-other}
+use Rattle.frame.proofs.Steps.{frame_short, framed_as, kind_same, kind_other}
 use Rattle.frame.proofs.frame_by.Goals as goal
 
 pub returns-then-n-gt16 : goal.returns-then-n-gt16
@@ -13,23 +13,23 @@ returns-then-n-gt16 c = λ t. rw (lt-leb c.args.n 16 c.if-n-gt16.true) c.none-th
 pub returns-then-text-at : goal.returns-then-text-at
 returns-then-text-at c = λ t.
     let a = c.args in
-    let e = frame-short a.kind a.n (drop a.at a.text.now) (rw length-drop (omega arith)) in
-    c.none-then-text-at.ensures ∙ framed-as a.kind a.n (drop a.at a.text.now) (omega arith) e
+    let e = frame_short a.kind a.n (drop a.at a.text.now) (rw length-drop (omega arith)) in
+    c.none-then-text-at.ensures ∙ framed_as a.kind a.n (drop a.at a.text.now) (omega arith) e
 
 pub returns-then-text-at-2 : goal.returns-then-text-at-2
 returns-then-text-at-2 c = λ t.
     let a = c.args in
-    let e = frame-short a.kind a.n (drop a.at a.text.now) (rw length-drop (omega arith)) in
-    c.none-then-text-at-2.ensures ∙ framed-as a.kind a.n (drop a.at a.text.now) (omega arith) e
+    let e = frame_short a.kind a.n (drop a.at a.text.now) (rw length-drop (omega arith)) in
+    c.none-then-text-at-2.ensures ∙ framed_as a.kind a.n (drop a.at a.text.now) (omega arith) e
 
 pub returns-then-b-kind : goal.returns-then-b-kind
 returns-then-b-kind c = λ t.
     let a = c.args in
-    let e = kind-other a.kind a.n a.at a.text.now (omega arith) (λ k. c.if-b-kind.true (c.byte-b.ensures t ∙ k)) in
-    c.none-then-b-kind.ensures ∙ framed-as a.kind a.n (drop a.at a.text.now) (omega arith) e
+    let e = kind_other a.kind a.n a.at a.text.now (omega arith) (λ k. c.if-b-kind.true (c.byte-b.ensures t ∙ k)) in
+    c.none-then-b-kind.ensures ∙ framed_as a.kind a.n (drop a.at a.text.now) (omega arith) e
 
 pub returns : goal.returns
 returns c = λ t.
     let a = c.args in
-    let e = kind-same a.kind a.n a.at a.text.now (omega arith) (omega arith) (sym (c.byte-b.ensures t) ∙ c.if-b-kind.false) in
-    c.line_at.ensures t ∙ framed-as a.kind a.n (drop a.at a.text.now) (omega arith) e
+    let e = kind_same a.kind a.n a.at a.text.now (omega arith) (omega arith) (sym (c.byte-b.ensures t) ∙ c.if-b-kind.false) in
+    c.line_at.ensures t ∙ framed_as a.kind a.n (drop a.at a.text.now) (omega arith) e

@@ -4,7 +4,7 @@ use Rattle.std.proofs.Common.{◌≡◌, ℕ, ◌+◌, ◌*◌, ◌-◌, List, d
 use lib.ListN.{set}
 use Rattle.frame.specs.Frame.{line_at}
 use Rattle.frame.specs.inner.Decoded.{decoded}
-use Rattle.frame.proofs.Steps.{fill, fill-zeros, turn, turn-none, end-feed, end_none}
+use Rattle.frame.proofs.Steps.{fill, fill_zeros, turn, turn_none, end_feed, end_none}
 use Rattle.frame.proofs.line_at.Goals as goal
 
 -- After the loop only the line feed is left.
@@ -20,13 +20,13 @@ loop-i-init c =
     let a = c.args in
     let e : a.n - 0 ≡ a.n = omega arith in
     let f : a.at + 0 ≡ a.at = omega arith in
-    (omega arith, λ t. rw (e, f) (fill-zeros a.n (drop a.at a.text.now) (omega arith)))
+    (omega arith, λ t. rw (e, f) (fill_zeros a.n (drop a.at a.text.now) (omega arith)))
 
 pub returns-then-b-gt255 : goal.returns-then-b-gt255
 returns-then-b-gt255 c = λ t.
     let a = c.args in
     let l = c.loop-i in
-    let none = turn-none a.text.now (a.at + 2 * l.i) a.n l.i (omega arith) (omega arith) (rw (← c.byte-b.ensures t) (omega arith)) in
+    let none = turn_none a.text.now (a.at + 2 * l.i) a.n l.i (omega arith) (omega arith) (rw (← c.byte-b.ensures t) (omega arith)) in
     c.none.ensures ∙ ap (fill l.bytes l.i) (sym none) ∙ l.invariant.1 t
 
 pub loop-i-preserved : goal.loop-i-preserved
@@ -51,5 +51,5 @@ pub returns : goal.returns
 returns c = λ t.
     let a = c.args in
     let l = c.loop-i in
-    let feed = end-feed a.text.now (a.at + 2 * a.n) (omega arith) c.if-text-at-ne10.false in
+    let feed = end_feed a.text.now (a.at + 2 * a.n) (omega arith) c.if-text-at-ne10.false in
     ap (fill l.bytes l.i) (sym feed) ∙ last a.n l.i a.at l.bytes a.text.now (omega arith) (l.invariant.1 t)

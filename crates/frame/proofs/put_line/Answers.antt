@@ -4,8 +4,8 @@ use Rattle.std.proofs.lemmas.List.Edits.{sets}
 use lib.ListN.{set}
 use lib.Seq.{length-take-le}
 use native.Mathlib.Decide.{dec_lt}
-use Rattle.frame.specs.Frame.{hexOf, line_of, placed}
-use Rattle.frame.proofs.Steps.{put-end, put_full, take_same}
+use Rattle.frame.specs.Frame.{hex_of, line_of, placed}
+use Rattle.frame.proofs.Steps.{put_end, put_full, take_same}
 use Rattle.frame.proofs.put_line.Goals as goal
 
 module _ (bs l : List ℕ) (at m n : ℕ) (size : length bs ≡ 16) (most : m ≤ 16) (least : m < 16 → m ≡ n) (less : m ≤ n) where
@@ -23,8 +23,8 @@ module _ (bs l : List ℕ) (at m n : ℕ) (size : length bs ≡ 16) (most : m �
   full : length l < at + (2 * m + 1) → l ≡ placed l at (line_of (take n bs))
   full h = rw (← same) (sym (put_full _ l at m long h))
 
-  room : at + (2 * m + 1) ≤ length l → set (sets l at (hexOf (take m bs))) (at + 2 * m) 10 ≡ placed l at (line_of (take n bs))
-  room h = put-end _ l at m long h ∙ ap (λ b. placed l at (line_of b)) same
+  room : at + (2 * m + 1) ≤ length l → set (sets l at (hex_of (take m bs))) (at + 2 * m) 10 ≡ placed l at (line_of (take n bs))
+  room h = put_end _ l at m long h ∙ ap (λ b. placed l at (line_of b)) same
 
 pub returns-then-out-at : goal.returns-then-out-at
 returns-then-out-at c =

@@ -5,14 +5,14 @@
 --   framed k n l        the record of the line of kind k with n more bytes at the front of l
 use Rattle.std.specs.Prelude.{◌≡◌, true, false, cond, List, ◌++◌, ℕ, ◌+◌, ◌*◌, ◌-◌, ◌<◌, ltb, leb, length, get_or, replicate}
 use Rattle.frame.specs.declared.Frame.{Frame}
-use Rattle.frame.specs.Frame.{digitOf, Line, bad, line, frame_at}
+use Rattle.frame.specs.Frame.{digit_of, Line, bad, line, frame_at}
 
 pub record Digits (table : List ℕ) : Type 0 where
   pub size : length table ≡ 256
-  pub values : (c : ℕ) → c < 256 → get_or table c 0 ≡ digitOf c
+  pub values : (c : ℕ) → c < 256 → get_or table c 0 ≡ digit_of c
 
 unfoldable pub pair_of : ℕ → ℕ → ℕ
-pair_of a b = cond (cond (ltb (digitOf a) 16) (ltb (digitOf b) 16) false) (digitOf a * 16 + digitOf b) 256
+pair_of a b = cond (cond (ltb (digit_of a) 16) (ltb (digit_of b) 16) false) (digit_of a * 16 + digit_of b) 256
 
 -- Bytes past the line's are 0.
 abbrev pub decoded : Line → Frame

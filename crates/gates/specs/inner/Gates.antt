@@ -3,7 +3,7 @@
 -- and the seed 32.
 --   part list lo hi     the members of a list from place lo up to place hi
 --   AllBits l           every member is 0 or 1
---   wordFrom w l        the bits l gathered behind the word w, the first one highest
+--   word_from w l       the bits l gathered behind the word w, the first one highest
 --   picked w            which bit of a truth word the gathered word w asks for: the number of its ones, and from 256 up the inputs of a selector themselves
 --   worked truth l      what the truth word gives for the inputs l
 --   Narrow truth n      the word of n inputs, gathered behind the seed of the truth word, is below 264
@@ -24,16 +24,16 @@ abbrev pub AllBits : List ℕ → Type 0
 AllBits l = (i : ℕ) → at l i ≤ 1
 
 -- "inputs gathered in one word".
-unfoldable pub wordFrom : ℕ → List ℕ → ℕ
-wordFrom w [] = w
-wordFrom w (x ∷ l) = wordFrom (w * 2 + x) l
+unfoldable pub word_from : ℕ → List ℕ → ℕ
+word_from w [] = w
+word_from w (x ∷ l) = word_from (w * 2 + x) l
 
 -- "ones counted decide"; behind the seed 32 stand three inputs, which are kept as they are.
 unfoldable pub picked : ℕ → ℕ
 picked w = cond (ltb w 256) (ones w) (w % 8)
 
 abbrev pub worked : ℕ → List ℕ → ℕ
-worked truth l = bit truth (picked (wordFrom (truth / 512) l))
+worked truth l = bit truth (picked (word_from (truth / 512) l))
 
 abbrev pub Narrow : ℕ → ℕ → Type 0
 Narrow truth n = suc (truth / 512) * 2 ^ n ≤ 264
@@ -62,8 +62,8 @@ evaluated kind node first list base (suc n) sig =
 
 -- Gate v has a truth word, a place for its value, and signals to see.
 pub record GateRows (truth first list : List ℕ) (base size v : ℕ) : Type 0 where
-  pub in-truth : v < length truth
-  pub in-first : suc v < length first
+  pub in_truth : v < length truth
+  pub in_first : suc v < length first
   pub in_size : base + v < size
   pub up : at first v ≤ at first (suc v)
   pub in_list : at first (suc v) ≤ length list
@@ -72,7 +72,7 @@ pub record GateRows (truth first list : List ℕ) (base size v : ℕ) : Type 0 w
 
 pub record Evaluable (node truth index first list : List ℕ) (gates base : ℕ) (sig : List ℕ) : Type 0 where
   pub table : Table index
-  pub in-node : gates ≤ length node
+  pub in_node : gates ≤ length node
   pub placed : (i : ℕ) → i < gates → GateRows truth first list base (length sig) (at node i)
   pub bits : AllBits sig
 

@@ -16,9 +16,9 @@ pub record From (G : Graph) (k v : ℕ) : Type 0 where
   pub walk : Walk G start v
 
 pub record Laid (nodes edges : ℕ) (from to : List ℕ) : Type 0 where
-  pub nodes-fit : nodes ≤ 512
+  pub nodes_fit : nodes ≤ 512
   pub edges_fit : edges ≤ 1024
-  pub from-rows : edges ≤ length from
-  pub to-rows : edges ≤ length to
+  pub from_rows : edges ≤ length from
+  pub to_rows : edges ≤ length to
   pub from_in : (e : ℕ) → e < edges → at from e < nodes
   pub to_in : (e : ℕ) → e < edges → at to e < nodes

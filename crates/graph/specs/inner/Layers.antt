@@ -9,7 +9,7 @@
 --   PassLeaves          what `pass` does
 use Rattle.std.specs.Prelude.{◌≡◌, ◌⊎◌, List, ℕ, ◌+◌, ◌<◌, ◌≤◌, length}
 use Rattle.graph.specs.declared.layers.Layer.{Layer}
-use Rattle.graph.specs.Columns.{at, columnGraph}
+use Rattle.graph.specs.Columns.{at, column_graph}
 use Rattle.graph.specs.Layers.{FromWithin, Layered, NewAt}
 use Rattle.graph.specs.inner.Laid.{Laid}
 use Rattle.graph.specs.inner.Sort.{Stands, EdgesBy}
@@ -18,9 +18,9 @@ use Rattle.graph.specs.inner.Lists.{Listed}
 -- ── The queue ───────────────────────────────────────────────────────────────────────────────
 
 pub record Queued (nodes : ℕ) (queue marks : List ℕ) (held : ℕ) : Type 0 where
-  pub nodes-fit : nodes ≤ 512
-  pub queue-rows : length queue ≡ 512
-  pub mark-rows : length marks ≡ 512
+  pub nodes_fit : nodes ≤ 512
+  pub queue_rows : length queue ≡ 512
+  pub mark_rows : length marks ≡ 512
   pub listed : Listed nodes held queue marks
 
 pub record EndOf (to links : List ℕ) (lo hi v : ℕ) : Type 0 where
@@ -57,10 +57,10 @@ pub record Steady (nodes edges : ℕ) (from to : List ℕ) (layer : Layer) : Typ
 
 pub record AfterPasses (nodes edges : ℕ) (kind : List ℕ) (pin : ℕ) (from to : List ℕ) (layer : Layer) : Type 0 where
   pub steady : Steady nodes edges from to layer
-  pub layered : Layered (columnGraph nodes edges kind from to) pin layer.passes layer.marks
-  pub going : (n : ℕ) → n < layer.passes → NewAt (columnGraph nodes edges kind from to) pin n
-  pub early : (i : ℕ) → i < layer.lo → (m : ℕ) × (m < layer.passes) × FromWithin (columnGraph nodes edges kind from to) pin m (at layer.queue i)
-  pub late : (i m : ℕ) → layer.lo ≤ i → i < layer.hi → m < layer.passes → ¬ FromWithin (columnGraph nodes edges kind from to) pin m (at layer.queue i)
+  pub layered : Layered (column_graph nodes edges kind from to) pin layer.passes layer.marks
+  pub going : (n : ℕ) → n < layer.passes → NewAt (column_graph nodes edges kind from to) pin n
+  pub early : (i : ℕ) → i < layer.lo → (m : ℕ) × (m < layer.passes) × FromWithin (column_graph nodes edges kind from to) pin m (at layer.queue i)
+  pub late : (i m : ℕ) → layer.lo ≤ i → i < layer.hi → m < layer.passes → ¬ FromWithin (column_graph nodes edges kind from to) pin m (at layer.queue i)
 
 -- Gate kinds are nothing to a pass: whichever pin the marks spread from, they spread over one edge more.
 pub record PassLeaves (nodes edges : ℕ) (from to : List ℕ) (before after : Layer) : Type 0 where
@@ -69,5 +69,5 @@ pub record PassLeaves (nodes edges : ℕ) (from to : List ℕ) (before after : L
   pub steady : Steady nodes edges from to after
   pub early : (i : ℕ) → i < after.lo → at before.marks (at after.queue i) ≡ 1
   pub late : (i : ℕ) → after.lo ≤ i → i < after.hi → ¬ (at before.marks (at after.queue i) ≡ 1)
-  pub layered : (kind : List ℕ) (pin : ℕ) → Layered (columnGraph nodes edges kind from to) pin before.passes before.marks
-      → Layered (columnGraph nodes edges kind from to) pin after.passes after.marks
+  pub layered : (kind : List ℕ) (pin : ℕ) → Layered (column_graph nodes edges kind from to) pin before.passes before.marks
+      → Layered (column_graph nodes edges kind from to) pin after.passes after.marks

@@ -31,7 +31,7 @@ abbrev pub Once : List ℕ → ℕ → Type 0
 Once xs n = (p q : ℕ) → p < q → q < n → ¬ (at xs p ≡ at xs q)
 
 pub record Listed (nodes n : ℕ) (list mark : List ℕ) : Type 0 where
-  pub nodes-only : (p : ℕ) → p < n → at list p < nodes
+  pub nodes_only : (p : ℕ) → p < n → at list p < nodes
   pub once : Once list n
   pub marked : (p : ℕ) → p < n → at mark (at list p) ≡ 1
   pub stands : (v : ℕ) → v < nodes → ¬ (at mark v ≡ 0) → Stands list n v

@@ -13,7 +13,7 @@
 --   Found               what `order_of` finds: an order of all nodes, or a loop without a register
 use Rattle.std.specs.Prelude.{◌≡◌, List, ℕ, ◌+◌, ◌<◌, ◌≤◌, length, set}
 use Rattle.theory.specs.Walk.{Loop}
-use Rattle.graph.specs.Columns.{at, columnGraph}
+use Rattle.graph.specs.Columns.{at, column_graph}
 use Rattle.graph.specs.inner.Laid.{Laid}
 use Rattle.graph.specs.inner.Lists.{Listed}
 use Rattle.graph.specs.inner.Sort.{Stands, EdgesBy, Ordered}
@@ -27,8 +27,8 @@ pub record Wires (nodes edges : ℕ) (from to ins first outs leave : List ℕ) :
 
 pub record Readable (ins first past : List ℕ) (v : ℕ) : Type 0 where
   pub first_rows : v + 1 < length first
-  pub ins-rows : at first (v + 1) ≤ length ins
-  pub past-rows : (k : ℕ) → k < at first (v + 1) → at ins k < length past
+  pub ins_rows : at first (v + 1) ≤ length ins
+  pub past_rows : (k : ℕ) → k < at first (v + 1) → at ins k < length past
 
 pub record Waits (ins first past : List ℕ) (v : ℕ) : Type 0 where
   pub place : ℕ
@@ -57,13 +57,13 @@ Waiting n edges to past mark = (v : ℕ) → v < n → at mark v ≡ 0 → OpenI
 pub record Stage (nodes edges : ℕ) (from to count ins first past order mark : List ℕ) (placed : ℕ) : Type 0 where
   pub laid : Laid nodes edges from to
   pub entering : EdgesBy to nodes edges ins first
-  pub past-rows : edges ≤ length past
-  pub order-rows : nodes ≤ length order
-  pub mark-rows : nodes ≤ length mark
+  pub past_rows : edges ≤ length past
+  pub order_rows : nodes ≤ length order
+  pub mark_rows : nodes ≤ length mark
   pub listed : Listed nodes placed order mark
   pub bare : (e : ℕ) → e < edges → at past e ≡ 0 → at count e ≡ 0
   pub passed : (e : ℕ) → e < edges → at count e ≡ 0 → ¬ (at past e ≡ 0) → Stands order placed (at from e)
-  pub sources-first : (p e : ℕ) → p < placed → e < edges → at to e ≡ at order p → at count e ≡ 0 → Stands order p (at from e)
+  pub sources_first : (p e : ℕ) → p < placed → e < edges → at to e ≡ at order p → at count e ≡ 0 → Stands order p (at from e)
 
 pub record Taking (nodes edges : ℕ) (from to count ins first outs leave past order mark : List ℕ) (placed u : ℕ) : Type 0 where
   pub stage : Stage nodes edges from to count ins first past order mark placed
@@ -73,8 +73,8 @@ pub record Taking (nodes edges : ℕ) (from to count ins first outs leave past o
 
 pub record FirstTried (nodes : ℕ) (ins first past order mark order' mark' : List ℕ) (r v : ℕ) : Type 0 where
   pub within : v ≤ nodes
-  pub order-rows : length order' ≡ length order
-  pub mark-rows : length mark' ≡ length mark
+  pub order_rows : length order' ≡ length order
+  pub mark_rows : length mark' ≡ length mark
   pub tried : (edges : ℕ) (from to count : List ℕ) → Stage nodes edges from to count ins first past order mark 0
       → Stage nodes edges from to count ins first past order' mark' r × Waiting v edges to past mark'
 
@@ -82,9 +82,9 @@ pub record FirstTried (nodes : ℕ) (ins first past order mark order' mark' : Li
 pub record Taken (to ins first outs leave past order mark : List ℕ) (placed u : ℕ) (past' order' mark' : List ℕ) (r k : ℕ) : Type 0 where
   pub begun : at leave u ≤ k
   pub within : k ≤ at leave (u + 1)
-  pub past-rows : length past' ≡ length past
-  pub order-rows : length order' ≡ length order
-  pub mark-rows : length mark' ≡ length mark
+  pub past_rows : length past' ≡ length past
+  pub order_rows : length order' ≡ length order
+  pub mark_rows : length mark' ≡ length mark
   pub kept : (e : ℕ) → ¬ (at past e ≡ 0) → ¬ (at past' e ≡ 0)
   pub gone : (j : ℕ) → at leave u ≤ j → j < k → ¬ (at past' (at outs j) ≡ 0)
   pub same : (p : ℕ) → p < placed → at order' p ≡ at order p
@@ -100,13 +100,13 @@ pub record Going (nodes edges : ℕ) (from to count ins first outs leave past or
   pub low : i ≤ placed
 
 pub record AllTaken (to ins first outs leave past order mark : List ℕ) (placed : ℕ) (past' order' mark' : List ℕ) (r i : ℕ) : Type 0 where
-  pub past-rows : length past' ≡ length past
-  pub order-rows : length order' ≡ length order
-  pub mark-rows : length mark' ≡ length mark
+  pub past_rows : length past' ≡ length past
+  pub order_rows : length order' ≡ length order
+  pub mark_rows : length mark' ≡ length mark
   pub going : (nodes edges : ℕ) (from count : List ℕ) → Going nodes edges from to count ins first outs leave past order mark placed 0
       → Going nodes edges from to count ins first outs leave past' order' mark' r i
 
 pub record Found (nodes edges : ℕ) (from to count : List ℕ) (placed : ℕ) (order : List ℕ) : Type 0 where
   pub few : placed ≤ nodes
   pub whole : placed ≡ nodes → Ordered nodes edges from to count order
-  pub stuck : placed < nodes → (kind : List ℕ) → Loop (columnGraph nodes edges kind from to) (at count)
+  pub stuck : placed < nodes → (kind : List ℕ) → Loop (column_graph nodes edges kind from to) (at count)

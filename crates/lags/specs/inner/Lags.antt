@@ -1,5 +1,5 @@
 -- The least retiming, as labels. "The least retiming is the legal one meeting the period whose lag is smallest at every node at once."
---   lagOf               the lag of a label
+--   lag_of              the lag of a label
 --   Sure                what reading has made sure of, as far as it is used here
 --   Leasts              what `least` promises
 use Rattle.std.specs.Prelude.{◌≡◌, true, false, ℕ, ◌<◌, ℤ, pos, ◌-ℤ◌}
@@ -12,8 +12,8 @@ use Rattle.netlist.specs.inner.Words.{PinIn}
 use Rattle.netlist.specs.Theorems.{Fit}
 use Rattle.lags.specs.declared.Labels.{Labels}
 
-unfoldable pub lagOf : ℕ → ℤ
-lagOf l = pos l -ℤ pos 16384
+unfoldable pub lag_of : ℕ → ℤ
+lag_of l = pos l -ℤ pos 16384
 
 -- The lines keep their rules, no loop is without a register, and an input reaches every gate: half of rule 7. (Nothing here needs rule 5.)
 pub record Sure (net : Netlist) : Type 0 where
@@ -23,6 +23,6 @@ pub record Sure (net : Netlist) : Type 0 where
 
 -- Whether or not there is a retiming, each label is such that its lag fits 16 bits.
 pub record Leasts (net : Netlist) (period : ℕ) (r : Labels) : Type 0 where
-  pub least : r.found ≡ true → LeastIn net period (λ v. lagOf (at r.lab v))
+  pub least : r.found ≡ true → LeastIn net period (λ v. lag_of (at r.lab v))
   pub none : r.found ≡ false → NoneMeetsIn net period
   pub small : (v : ℕ) → v < net.nodes → at r.lab v < 32768

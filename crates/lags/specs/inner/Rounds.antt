@@ -18,7 +18,7 @@ use Rattle.graph.specs.Columns.{at}
 use Rattle.graph.specs.inner.Sort.{Stands}
 use Rattle.graph.specs.inner.Lists.{Appended, Filtered}
 use Rattle.netlist.specs.declared.Netlist.{Netlist}
-use Rattle.netlist.specs.Net.{graph_of, regs_of, delayOf}
+use Rattle.netlist.specs.Net.{graph_of, regs_of, delay_of}
 use Rattle.lags.specs.inner.Wires.{NodeList}
 
 abbrev pub Low : ℕ → List ℕ → Type 0
@@ -31,7 +31,7 @@ EmptyUnder net lab e = Empty (graph_of net) (regs_of net).count (at lab) e
 
 pub record LabelOrder (net : Netlist) (lab order : List ℕ) : Type 0 where
   pub listed : NodeList net order
-  pub sources-first : (p e : ℕ) → p < net.nodes → e < net.edges → at net.to e ≡ at order p → EmptyUnder net lab e → Stands order p (at net.from e)
+  pub sources_first : (p e : ℕ) → p < net.nodes → e < net.edges → at net.to e ≡ at order p → EmptyUnder net lab e → Stands order p (at net.from e)
 
 abbrev pub HeldAt : ℕ → ℕ → ℕ → ℕ → Type 0
 HeldAt start count end held = (start ≡ count + end → held ≡ 0) × (held ≡ 0 → start ≡ count + end)
@@ -55,7 +55,7 @@ pub record LatestTime (ins from count lab time : List ℕ) (here lo hi best : �
       ⊎ ((k : ℕ) × (lo ≤ k) × (k < hi) × (at lab (at from (at ins k)) ≡ at count (at ins k) + here) × (at time (at from (at ins k)) ≡ best))
 
 abbrev pub Arrived : Netlist → ℕ → List ℕ → List ℕ → Type 0
-Arrived net period lab time = Arrival (graph_of net) (regs_of net).count (delayOf net) period (at lab) (at time)
+Arrived net period lab time = Arrival (graph_of net) (regs_of net).count (delay_of net) period (at lab) (at time)
 
 -- ── The late nodes ──────────────────────────────────────────────────────────────────────────
 
@@ -76,7 +76,7 @@ abbrev pub OnTime : List ℕ → ℕ → ℕ → Type 0
 OnTime time period v = at time v ≤ period
 
 pub record Parts (order time : List ℕ) (period n : ℕ) (late rest : List ℕ) (a b : ℕ) : Type 0 where
-  pub late-part : Filtered (LateBy time period) order n late a
+  pub late_part : Filtered (LateBy time period) order n late a
   pub rest_part : Filtered (OnTime time period) order n rest b
   pub all : a + b ≡ n
 

@@ -1,6 +1,6 @@
 -- Distances, and the labels to start from.
 --   start_of            the distance that a node of a kind starts from
---   distanceSum         the sum of all distances: the reason why sweeps end
+--   distance_sum        the sum of all distances: the reason why sweeps end
 --   Far                 distances on the way: 0 at a pin, and reached by a walk from one
 --   NoShorter           no edge offers a shorter way
 --   Shortened           what a sweep does
@@ -17,8 +17,8 @@ use Rattle.netlist.specs.inner.Words.{PinIn}
 unfoldable pub start_of : ℕ → ℕ
 start_of kind = cond (leb kind 1) 0 16384
 
-abbrev pub distanceSum : Netlist → List ℕ → ℕ
-distanceSum net far = sum (λ v. at far v) net.nodes
+abbrev pub distance_sum : Netlist → List ℕ → ℕ
+distance_sum net far = sum (λ v. at far v) net.nodes
 
 pub record Far (net : Netlist) (far : List ℕ) : Type 0 where
   pub rows : net.nodes ≤ length far
@@ -31,7 +31,7 @@ NoShorter net far n = (e : ℕ) → e < n → at far (at net.to e) ≤ at far (a
 
 pub record Shortened (net : Netlist) (before after : List ℕ) (r : ℕ) : Type 0 where
   pub far : Far net after
-  pub fallen : distanceSum net after + r ≤ distanceSum net before
+  pub fallen : distance_sum net after + r ≤ distance_sum net before
   pub passed : r ≡ 0 → NoShorter net after net.edges
 
 pub record Measured (net : Netlist) (far : List ℕ) : Type 0 where

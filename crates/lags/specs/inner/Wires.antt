@@ -24,11 +24,11 @@ pub record Grounded (net : Netlist) (g : Ground) : Type 0 where
   pub wires : EdgesBy net.to net.nodes net.edges g.ins g.first
   pub nodes : NodeList net g.order
   pub delayed : Delayed net.delay net.derate net.nodes g.delay
-  pub delay-rows : net.nodes ≤ length g.delay
+  pub delay_rows : net.nodes ≤ length g.delay
 
 pub record Basis (net : Netlist) (period : ℕ) (ins first delay : List ℕ) : Type 0 where
   pub sure : Sure net
   pub wires : EdgesBy net.to net.nodes net.edges ins first
   pub delayed : Delayed net.delay net.derate net.nodes delay
-  pub delay-rows : net.nodes ≤ length delay
-  pub period-small : period < 1000000
+  pub delay_rows : net.nodes ≤ length delay
+  pub period_small : period < 1000000

@@ -15,12 +15,12 @@ pub record Moving (net : Netlist) (lab counts : List ℕ) : Type 0 where
   pub sound : SoundIn net
   pub labelled : Labelled net lab
   pub counted : Counts net lab counts
-  pub count-rows : net.edges ≤ length counts
+  pub count_rows : net.edges ≤ length counts
   pub narrow : (e : ℕ) → e < net.edges → at counts e ≤ 32
 
 pub record Choosing (net : Netlist) (lab counts base : List ℕ) (k : ℕ) : Type 0 where
   pub moving : Moving net lab counts
   pub based : Bases net lab base
-  pub base-rows : net.edges < length base
+  pub base_rows : net.edges < length base
   pub chosen : k ≡ at base net.edges
   pub few : k ≤ 24

@@ -2,7 +2,7 @@
 --   new?                whether a pass marks something
 --   stops               when a walk stops
 --   bits_of             marks for a property that can be told
---   some-walk, one-walk, walk-begins, walk-ends
+--   some_walk, one_walk, walk_begins, walk_ends
 use Prim.Native.Nat.{ℕ, zero, suc, ◌≤◌, ◌<◌}
 use native.Mathlib.Omega.{arith}
 use native.Mathlib.Decide.{ℕ_discrete, dec_lt}
@@ -16,18 +16,18 @@ use Rattle.theory.proofs.numbers.Find.{any, not?}
 use Rattle.graph.specs.Columns.{at}
 use Rattle.graph.specs.declared.layers.Layer.{Layer}
 use Rattle.graph.specs.Layers.{Told, FromWithin, NewAt, LayerFrom}
-use Rattle.graph.proofs.Laws.{from-input, input-from}
-use Rattle.graph.proofs.Passes.{marked-has, has-marked, mark-tells, within-pin, within_none, within-more, within?, settled-told}
+use Rattle.graph.proofs.Laws.{from_input, input_from}
+use Rattle.graph.proofs.Passes.{marked_has, has_marked, mark_tells, within_pin, within_none, within_more, within?, settled_told}
 use Rattle.netlist.specs.declared.Netlist.{Netlist}
 use Rattle.netlist.specs.Answer.{Said, value}
 use Rattle.netlist.specs.Net.{graph_of}
 use Rattle.netlist.specs.Read.{Lines, fault, lines, lines_of}
-use Rattle.netlist.specs.Walk.{emptyLayer, WalksBy, Walks}
+use Rattle.netlist.specs.Walk.{empty_layer, WalksBy, Walks}
 use Rattle.netlist.specs.Theorems.{SomeWalk, OneWalk, WalkBegins, WalkEnds}
 use Rattle.netlist.specs.inner.Record.{rows_to}
-use Rattle.netlist.proofs.Rows.{rowsTo-in}
-use Rattle.netlist.proofs.Run.{fit-wired}
-use Rattle.netlist.proofs.Answered.{lined-fit}
+use Rattle.netlist.proofs.Rows.{rows_to_in}
+use Rattle.netlist.proofs.Run.{fit_wired}
+use Rattle.netlist.proofs.Answered.{lined_fit}
 
 -- ── Some walk ───────────────────────────────────────────────────────────────────────────────
 
@@ -45,7 +45,7 @@ module _ {G : Graph} (w : Wired G) (k : ℕ) where
       (λ none. no (λ x. none x.node x.there x.reached))
       (any G.nodes (λ v h. within? w k 0 v h))
   new? (suc n) = ⊎_elim
-      (λ x. yes (record { node = x.0; there = x.1; reached = x.2.0; first = λ m l y. x.2.1 (within-more (omega arith) y) }))
+      (λ x. yes (record { node = x.0; there = x.1; reached = x.2.0; first = λ m l y. x.2.1 (within_more (omega arith) y) }))
       (λ none. no (λ x. none x.node x.there (x.reached, x.first n (omega arith))))
       (any G.nodes (λ v h. both? (within? w k (suc n) v h) (not? (within? w k n v h))))
     where
@@ -77,9 +77,9 @@ module _ {P : ℕ → Type 0} (n : ℕ) (d : (v : ℕ) → v < n → Dec (P v)) 
   bit (yes a) = 1
   bit (no a) = 0
 
-  bit-told : {A : Type 0} (x : Dec A) → (bit x ≤ 1) × Told (eqb (bit x) 1) A
-  bit-told (yes a) = (omega arith, a)
-  bit-told (no a) = (omega arith, a)
+  bit_told : {A : Type 0} (x : Dec A) → (bit x ≤ 1) × Told (eqb (bit x) 1) A
+  bit_told (yes a) = (omega arith, a)
+  bit_told (no a) = (omega arith, a)
 
   abbrev pick : (v : ℕ) → Dec (v < n) → ℕ
   pick v (yes h) = bit (d v h)
@@ -89,15 +89,15 @@ module _ {P : ℕ → Type 0} (n : ℕ) (d : (v : ℕ) → v < n → Dec (P v)) 
   bits_of = ((λ v. pick v (dec_lt v n)), (λ v h. go v h (dec_lt v n)))
     where
       go : (v : ℕ) → v < n → (x : Dec (v < n)) → (pick v x ≤ 1) × Told (eqb (pick v x) 1) (P v)
-      go v h (yes l) = bit-told (d v l)
+      go v h (yes l) = bit_told (d v l)
       go v h (no l) = absurd (l h)
 
-some-layer : {G : Graph} → Wired G → (k most : ℕ) → (layer : Layer) × LayerFrom G k most layer
-some-layer {G} w k most =
+some_layer : {G : Graph} → Wired G → (k most : ℕ) → (layer : Layer) × LayerFrom G k most layer
+some_layer {G} w k most =
     let s = stops w k most in
     let f = bits_of G.nodes (λ v h. within? w k s.passes v h) in
     let marks = rows_to G.nodes f.0 G.nodes in
-    let same : (v : ℕ) → v < G.nodes → at marks v ≡ f.0 v = λ v h. rowsTo-in G.nodes f.0 G.nodes (omega arith) v h in (
+    let same : (v : ℕ) → v < G.nodes → at marks v ≡ f.0 v = λ v h. rows_to_in G.nodes f.0 G.nodes (omega arith) v h in (
       record { passes = s.passes; lo = 0; hi = 0; queue = marks; marks = marks },
       record {
         few = s.few;
@@ -108,60 +108,60 @@ some-layer {G} w k most =
       },
     )
 
-pub some-walk : SomeWalk
-some-walk t most = go (lines_of t) refl
+pub some_walk : SomeWalk
+some_walk t most = go (lines_of t) refl
   where
     go : (x : Lines) → lines_of t ≡ x → (s : Said) × (layer : Layer) × WalksBy x most s layer
-    go (fault s) e = (s, emptyLayer, (refl, refl))
-    go (lines net) e = let l = some-layer (fit-wired net (lined-fit t net e)) 0 most in (value net.nodes, l.0, (refl, l.1))
+    go (fault s) e = (s, empty_layer, (refl, refl))
+    go (lines net) e = let l = some_layer (fit_wired net (lined_fit t net e)) 0 most in (value net.nodes, l.0, (refl, l.1))
 
 -- ── One walk ────────────────────────────────────────────────────────────────────────────────
 
 module _ {G : Graph} {k most : ℕ} (a b : Layer) (x : LayerFrom G k most a) (y : LayerFrom G k most b) where
   -- No pass follows one that marks nothing.
-  not-less : {a b : Layer} → LayerFrom G k most a → LayerFrom G k most b → ¬ (a.passes < b.passes)
-  not-less {a} {b} x y l = x.ended (omega (arith, y.few)) (y.going a.passes l)
+  not_less : {a b : Layer} → LayerFrom G k most a → LayerFrom G k most b → ¬ (a.passes < b.passes)
+  not_less {a} {b} x y l = x.ended (omega (arith, y.few)) (y.going a.passes l)
 
-  same-passes : a.passes ≡ b.passes
-  same-passes = go (dec_lt a.passes b.passes) (dec_lt b.passes a.passes)
+  same_passes : a.passes ≡ b.passes
+  same_passes = go (dec_lt a.passes b.passes) (dec_lt b.passes a.passes)
     where
       go : Dec (a.passes < b.passes) → Dec (b.passes < a.passes) → a.passes ≡ b.passes
-      go (yes l) d = absurd (not-less x y l)
-      go (no l) (yes m) = absurd (not-less y x m)
+      go (yes l) d = absurd (not_less x y l)
+      go (no l) (yes m) = absurd (not_less y x m)
       go (no l) (no m) = omega arith
 
-  same-mark : (v : ℕ) → v < G.nodes → at a.marks v ≡ at b.marks v
-  same-mark v h = go (ℕ_discrete (at a.marks v) 1) (ℕ_discrete (at b.marks v) 1)
+  same_mark : (v : ℕ) → v < G.nodes → at a.marks v ≡ at b.marks v
+  same_mark v h = go (ℕ_discrete (at a.marks v) 1) (ℕ_discrete (at b.marks v) 1)
     where
       there : Told (eqb (at b.marks v) 1) (FromWithin G k a.passes v)
-      there = subst (λ n. Told (eqb (at b.marks v) 1) (FromWithin G k n v)) (sym same-passes) (y.layered v h)
+      there = subst (λ n. Told (eqb (at b.marks v) 1) (FromWithin G k n v)) (sym same_passes) (y.layered v h)
 
       go : Dec (at a.marks v ≡ 1) → Dec (at b.marks v ≡ 1) → at a.marks v ≡ at b.marks v
-      go (yes p) d = p ∙ sym (has-marked there (marked-has (x.layered v h) p))
-      go (no p) (yes q) = absurd (p (has-marked (x.layered v h) (marked-has there q)))
+      go (yes p) d = p ∙ sym (has_marked there (marked_has (x.layered v h) p))
+      go (no p) (yes q) = absurd (p (has_marked (x.layered v h) (marked_has there q)))
       go (no p) (no q) = omega (arith, x.bits v h, y.bits v h)
 
-pub one-walk : OneWalk
-one-walk t most s s' layer layer' w w' = go (lines_of t) w w'
+pub one_walk : OneWalk
+one_walk t most s s' layer layer' w w' = go (lines_of t) w w'
   where
     go : (x : Lines) → WalksBy x most s layer → WalksBy x most s' layer'
         → (s ≡ s') × (layer.passes ≡ layer'.passes) × ((n v : ℕ) → s ≡ value n → v < n → at layer.marks v ≡ at layer'.marks v)
     go (fault x) p q = let e = p.1 ∙ sym q.1 in (p.0 ∙ sym q.0, ap (λ l. l.passes) e, λ n v f h. ap (λ l. at l.marks v) e)
     go (lines net) p q =
-        (p.0 ∙ sym q.0, same-passes layer layer' p.1 q.1, λ n v f h. same-mark layer layer' p.1 q.1 v (subst (λ m. v < m) (let e : n ≡ net.nodes = cc in e) h))
+        (p.0 ∙ sym q.0, same_passes layer layer' p.1 q.1, λ n v f h. same_mark layer layer' p.1 q.1 v (subst (λ m. v < m) (let e : n ≡ net.nodes = cc in e) h))
 
 -- ── What is marked ──────────────────────────────────────────────────────────────────────────
 
-came-of : (t : List ℕ) (net : Netlist) (most : ℕ) (s : Said) (layer : Layer) → lines_of t ≡ lines net → Walks t most s layer → LayerFrom (graph_of net) 0 most layer
-came-of t net most s layer e w = (subst (λ x. WalksBy x most s layer) e w).1
+came_of : (t : List ℕ) (net : Netlist) (most : ℕ) (s : Said) (layer : Layer) → lines_of t ≡ lines net → Walks t most s layer → LayerFrom (graph_of net) 0 most layer
+came_of t net most s layer e w = (subst (λ x. WalksBy x most s layer) e w).1
 
-pub walk-begins : WalkBegins
-walk-begins t net most s layer e w z v h =
-    let l = subst (λ n. Told (eqb (at layer.marks v) 1) (FromWithin (graph_of net) 0 n v)) z ((came-of t net most s layer e w).layered v h) in
-    mark-tells (λ m. within_none (marked-has l m)) (λ q. has-marked l (within-pin h q))
+pub walk_begins : WalkBegins
+walk_begins t net most s layer e w z v h =
+    let l = subst (λ n. Told (eqb (at layer.marks v) 1) (FromWithin (graph_of net) 0 n v)) z ((came_of t net most s layer e w).layered v h) in
+    mark_tells (λ m. within_none (marked_has l m)) (λ q. has_marked l (within_pin h q))
 
-pub walk-ends : WalkEnds
-walk-ends t net most s layer e w k v h =
-    let l = came-of t net most s layer e w in
-    let f = settled-told (fit-wired net (lined-fit t net e)) (l.ended k) layer.marks l.layered v h in
-    mark-tells (λ m. from-input (marked-has f m)) (λ r. has-marked f (input-from r))
+pub walk_ends : WalkEnds
+walk_ends t net most s layer e w k v h =
+    let l = came_of t net most s layer e w in
+    let f = settled_told (fit_wired net (lined_fit t net e)) (l.ended k) layer.marks l.layered v h in
+    mark_tells (λ m. from_input (marked_has f m)) (λ r. has_marked f (input_from r))

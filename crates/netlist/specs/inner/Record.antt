@@ -7,7 +7,7 @@ use Rattle.netlist.specs.declared.Netlist.{Netlist}
 use Rattle.netlist.specs.declared.Answer.{Answer}
 use Rattle.netlist.specs.declared.Answer.TheVariants.{Done, Refused}
 use Rattle.netlist.specs.Answer.{says}
-use Rattle.netlist.specs.Net.{zeros, netWith}
+use Rattle.netlist.specs.Net.{zeros, net_with}
 use Rattle.netlist.specs.Read.{fault, lines_of}
 use Rattle.netlist.specs.Write.{text_of}
 use Rattle.netlist.specs.Theorems.{FitTo}
@@ -18,7 +18,7 @@ rows_to m f (suc n) = set (rows_to m f n) n (f n)
 
 abbrev pub cut : Netlist → ℕ → ℕ → Netlist
 cut net n m =
-    netWith net.period net.derate net.nodes net.edges
+    net_with net.period net.derate net.nodes net.edges
     (rows_to 512 (λ v. get_or net.kind v 0) n) (rows_to 512 (λ v. get_or net.delay v 0) n)
     (rows_to 1024 (λ e. get_or net.from e 0) m) (rows_to 1024 (λ e. get_or net.to e 0) m)
     (rows_to 1024 (λ e. get_or net.count e 0) m) (rows_to 1024 (λ e. get_or net.start e 0) m)

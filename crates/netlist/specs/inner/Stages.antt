@@ -6,17 +6,17 @@ use Rattle.std.specs.Prelude.{◌≡◌, List, ℕ}
 use Rattle.netlist.specs.declared.Netlist.{Netlist}
 use Rattle.netlist.specs.declared.Answer.{Answer}
 use Rattle.netlist.specs.declared.Answer.TheVariants.{Done, Refused}
-use Rattle.netlist.specs.Answer.{Said, value, atNode, says}
-use Rattle.netlist.specs.Order.{◌orElse◌, GivenAt, Otherwise}
-use Rattle.netlist.specs.Net.{emptyNet}
+use Rattle.netlist.specs.Answer.{Said, value, at_node, says}
+use Rattle.netlist.specs.Order.{◌or_else◌, GivenAt, Otherwise}
+use Rattle.netlist.specs.Net.{empty_net}
 use Rattle.netlist.specs.Read.{Lines, fault, lines, lines_of, Lowest}
 
 abbrev pub Goes : Answer → Lines → Lines → Netlist → Type 0
 Goes (Done n) whole rest net = whole ≡ rest
-Goes (Refused q p) whole rest net = (whole ≡ fault (says (Refused q p))) × (net ≡ emptyNet)
+Goes (Refused q p) whole rest net = (whole ≡ fault (says (Refused q p))) × (net ≡ empty_net)
 
 abbrev pub Lined : List ℕ → Answer → Netlist → Type 0
 Lined t a net = Goes a (lines_of t) (lines net) net
 
 abbrev pub Sought : (ℕ → Type 0) → ℕ → ℕ → Said → Type 0
-Sought Rule n q = GivenAt (Lowest Rule n) (atNode q) orElse Otherwise (value 0)
+Sought Rule n q = GivenAt (Lowest Rule n) (at_node q) or_else Otherwise (value 0)

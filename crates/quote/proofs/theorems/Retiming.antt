@@ -1,6 +1,6 @@
 -- Retiming at the quoted period, at shorter and at longer ones.
 --   numbers             what retiming says at the quoted period
---   eight-fact, quote-is-retiming
+--   eight_fact, quote_is_retiming
 use Prim.Native.Nat.{ℕ}
 use native.Mathlib.Omega.{arith}
 use mathlib.Core.Path.{refl, subst}
@@ -8,41 +8,41 @@ use mathlib.Core.List.{List}
 use Rattle.netlist.specs.declared.Netlist.{Netlist}
 use Rattle.netlist.specs.Answer.{Said, value}
 use Rattle.netlist.specs.Read.{Reads}
-use Rattle.netlist.proofs.Order.{given-one, decides}
+use Rattle.netlist.proofs.Order.{given_one, decides}
 use Rattle.quote.specs.Theorems.{RetimedAt, EightFact, AtTheQuote, QuoteIsRetiming}
 use Rattle.quote.specs.inner.Quoted.{FromEight, QuotesNet}
-use Rattle.quote.proofs.Call.{net-of, told-period, told-eight}
-use Rattle.quote.proofs.Retimed.{eight-at, nine-at, ten-at, chosen_at, counts-at}
-use Rattle.quote.proofs.theorems.Period.{longer-forbids-less, period-reads}
+use Rattle.quote.proofs.Call.{net_of, told_period, told_eight}
+use Rattle.quote.proofs.Retimed.{eight_at, nine_at, ten_at, chosen_at, counts_at}
+use Rattle.quote.proofs.theorems.Period.{longer_forbids_less, period_reads}
 
 -- Both are refused 8 exactly where no legal retiming meets 65,535.
-pub eight-fact : EightFact
-eight-fact t net s r a b c out' h o x =
-    let q = net-of net h o in
-    let (to, from) = eight-at net 65535 (period-reads t net 65535 h (omega arith) (omega arith)) x in
-    (λ z. from (told-eight (subst (FromEight net q.lag) z q.answer)), λ z. decides (given-one _ _) (to z, refl) q.answer)
+pub eight_fact : EightFact
+eight_fact t net s r a b c out' h o x =
+    let q = net_of net h o in
+    let (to, from) = eight_at net 65535 (period_reads t net 65535 h (omega arith) (omega arith)) x in
+    (λ z. from (told_eight (subst (FromEight net q.lag) z q.answer)), λ z. decides (given_one _ _) (to z, refl) q.answer)
 
 -- The quote's numbers are those of the least lags at its period, and retiming at that period goes by the least lags.
 numbers : (t : List ℕ) (net : Netlist) (p a b c : ℕ) → Reads t (value 0) net → QuotesNet net (value p) a b c
     → (r : Said) (out' : List ℕ) → RetimedAt net p r out' → AtTheQuote net p a b c r out'
 numbers t net p a b c h q r out' x =
-    let (f, l) = told-period q.answer in
-    let reads = period-reads t net p h f.low f.high in
+    let (f, l) = told_period q.answer in
+    let reads = period_reads t net p h f.low f.high in
     record {
-      nine = rw q.widest (nine-at net p reads x q.lag l);
-      ten = rw (q.widest, q.chosen) (ten-at net p reads x q.lag l);
+      nine = rw q.widest (nine_at net p reads x q.lag l);
+      ten = rw (q.widest, q.chosen) (ten_at net p reads x q.lag l);
       chosen = rw q.chosen (chosen_at net p reads x q.lag l);
-      counts = rw (q.total, q.widest) (counts-at net p reads x q.lag l);
+      counts = rw (q.total, q.widest) (counts_at net p reads x q.lag l);
     }
 
 -- No shorter period is met, and what meets this one meets every longer one.
-pub quote-is-retiming : QuoteIsRetiming
-quote-is-retiming t net p a b c h o =
-    let q = net-of net h o in
-    let (f, l) = told-period q.answer in
+pub quote_is_retiming : QuoteIsRetiming
+quote_is_retiming t net p a b c h o =
+    let q = net_of net h o in
+    let (f, l) = told_period q.answer in
     record {
-      smaller = λ i r out' low less x. (eight-at net i (period-reads t net i h low (omega (arith, f.high))) x).1 (f.smaller i low less);
+      smaller = λ i r out' low less x. (eight_at net i (period_reads t net i h low (omega (arith, f.high))) x).1 (f.smaller i low less);
       longer = λ i r out' more high x z.
-          longer-forbids-less net p i more ((eight-at net i (period-reads t net i h (omega (arith, f.low)) high) x).0 z) q.lag l.feasible;
-      its-numbers = numbers t net p a b c h q;
+          longer_forbids_less net p i more ((eight_at net i (period_reads t net i h (omega (arith, f.low)) high) x).0 z) q.lag l.feasible;
+      its_numbers = numbers t net p a b c h q;
     }

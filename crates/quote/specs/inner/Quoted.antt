@@ -6,14 +6,14 @@
 use Rattle.std.specs.Prelude.{◌≡◌, Bool, true, false, List, ℕ, ℤ}
 use Rattle.netlist.specs.declared.Netlist.{Netlist}
 use Rattle.netlist.specs.Answer.{Said, value, whole}
-use Rattle.netlist.specs.Circuit.{NoneMeetsIn, LeastIn, chosenInAt}
-use Rattle.netlist.specs.Order.{◌orElse◌, Given, GivenAt}
-use Rattle.moves.specs.inner.Labels.{lagsOf, Labelled}
-use Rattle.quote.specs.Quote.{registersAt, largestAt, Smallest, countedIf}
+use Rattle.netlist.specs.Circuit.{NoneMeetsIn, LeastIn, chosen_in_at}
+use Rattle.netlist.specs.Order.{◌or_else◌, Given, GivenAt}
+use Rattle.moves.specs.inner.Labels.{lags_of, Labelled}
+use Rattle.quote.specs.Quote.{registers_at, largest_at, Smallest, counted_if}
 
 pub record Tightest (net : Netlist) (p : ℕ) (lab : List ℕ) : Type 0 where
   pub smallest : Smallest net p
-  pub least : LeastIn net p (lagsOf lab)
+  pub least : LeastIn net p (lags_of lab)
   pub labelled : Labelled net lab
 
 pub record Tightens (net : Netlist) (met : Bool) (p : ℕ) (lab : List ℕ) : Type 0 where
@@ -21,11 +21,11 @@ pub record Tightens (net : Netlist) (met : Bool) (p : ℕ) (lab : List ℕ) : Ty
   pub none : met ≡ false → NoneMeetsIn net 65535
 
 abbrev pub FromEight : Netlist → (ℕ → ℤ) → Said → Type 0
-FromEight net r = Given (NoneMeetsIn net 65535) (whole 8) orElse GivenAt (λ p. Smallest net p × LeastIn net p r) value
+FromEight net r = Given (NoneMeetsIn net 65535) (whole 8) or_else GivenAt (λ p. Smallest net p × LeastIn net p r) value
 
 pub record QuotesNet (net : Netlist) (s : Said) (registers largest number : ℕ) : Type 0 where
   pub lag : ℕ → ℤ
   pub answer : FromEight net lag s
-  pub total : registers ≡ countedIf s (registersAt net lag)
-  pub widest : largest ≡ countedIf s (largestAt net lag)
-  pub chosen : number ≡ countedIf s (chosenInAt net lag)
+  pub total : registers ≡ counted_if s (registers_at net lag)
+  pub widest : largest ≡ counted_if s (largest_at net lag)
+  pub chosen : number ≡ counted_if s (chosen_in_at net lag)

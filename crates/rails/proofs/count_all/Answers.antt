@@ -4,19 +4,19 @@ use lib.ListN.{length-set}
 use Rattle.graph.specs.Columns.{at}
 use Rattle.netlist.specs.declared.Netlist.{Netlist}
 use Rattle.netlist.specs.Theorems.{Fit}
-use Rattle.netlist.proofs.Run.{fit-rows, fit-wired}
-use Rattle.rails.proofs.Counted.{counted-none, counted-more, total-few, node-few}
+use Rattle.netlist.proofs.Run.{fit_rows, fit_wired}
+use Rattle.rails.proofs.Counted.{counted_none, counted_more, total_few, node_few}
 use Rattle.rails.proofs.count_all.Goals as goal
 
 -- The node that an edge leaves is there, and there are 512 nodes and 1,024 edges at most.
 source : (net : Netlist) → Fit net → (e : ℕ) → e < net.edges → (at net.from e < net.nodes) × (net.nodes ≤ 512) × (net.edges ≤ 1024)
-source net f e h = let r = fit-rows net f in ((fit-wired net f).src-in e h, r.0, r.1)
+source net f e h = let r = fit_rows net f in ((fit_wired net f).src_in e h, r.0, r.1)
 
 pub loop-e-init : goal.loop-e-init
-loop-e-init c = (omega arith, omega arith, counted-none _)
+loop-e-init c = (omega arith, omega arith, counted_none _)
 
 pub bounds-net-e : goal.bounds-net-e
-bounds-net-e c = omega (arith, (fit-rows _ c.requires).1)
+bounds-net-e c = omega (arith, (fit_rows _ c.requires).1)
 
 pub bounds-rails-u : goal.bounds-rails-u
 bounds-rails-u c = omega (arith, source _ c.requires c.loop-e.e c.loop-e-test.true)
@@ -26,7 +26,7 @@ overflow_add-rails c =
     let net = c.args.net.now in
     let i = c.loop-e.invariant in
     let s = source net c.requires c.loop-e.e c.loop-e-test.true in
-    omega (arith, s, total-few net c.requires i.2 i.0, node-few net c.requires i.2 (at net.from c.loop-e.e) s.0, c.paid-n.ensures.1)
+    omega (arith, s, total_few net c.requires i.2 i.0, node_few net c.requires i.2 (at net.from c.loop-e.e) s.0, c.paid-n.ensures.1)
 
 pub bounds-rails-u-in-loop-e : goal.bounds-rails-u-in-loop-e
 bounds-rails-u-in-loop-e c = omega (arith, source _ c.requires c.loop-e.e c.loop-e-test.true)
@@ -34,11 +34,11 @@ bounds-rails-u-in-loop-e c = omega (arith, source _ c.requires c.loop-e.e c.loop
 pub overflow_add-total : goal.overflow_add-total
 overflow_add-total c =
     let i = c.loop-e.invariant in
-    omega (arith, (fit-rows _ c.requires).1, total-few c.args.net.now c.requires i.2 i.0, c.paid-n.ensures.1)
+    omega (arith, (fit_rows _ c.requires).1, total_few c.args.net.now c.requires i.2 i.0, c.paid-n.ensures.1)
 
 pub loop-e-preserved : goal.loop-e-preserved
 loop-e-preserved c =
     let net = c.args.net.now in
     let i = c.loop-e.invariant in
     let s = source net c.requires c.loop-e.e c.loop-e-test.true in
-    (omega arith, length-set c.loop-e.rails _ _ ∙ i.1, counted-more net i.2 (omega (arith, s)) c.paid-n.ensures.0)
+    (omega arith, length-set c.loop-e.rails _ _ ∙ i.1, counted_more net i.2 (omega (arith, s)) c.paid-n.ensures.0)

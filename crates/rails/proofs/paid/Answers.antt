@@ -4,42 +4,42 @@ use Rattle.graph.specs.Columns.{at}
 use Rattle.netlist.specs.declared.Netlist.{Netlist}
 use Rattle.netlist.specs.Net.{graph_of, regs_of}
 use Rattle.netlist.specs.Theorems.{Fit}
-use Rattle.netlist.proofs.Run.{fit-rows}
-use Rattle.netlist.proofs.Fits.{edge-fits}
+use Rattle.netlist.proofs.Run.{fit_rows}
+use Rattle.netlist.proofs.Fits.{edge_fits_means}
 use Rattle.rails.specs.inner.Shared.{Shared}
-use Rattle.rails.proofs.Shared.{shared-none, shared-other, shared-further, paid-past}
+use Rattle.rails.proofs.Shared.{shared_none, shared_other, shared_further, paid_past}
 use Rattle.rails.proofs.paid.Goals as goal
 use Rattle.rails.proofs.paid.Goals.{then-net-i, else-net-i}
 
 -- An edge's values are at most 32, and its word has no others.
 word : (net : Netlist) → Fit net → (e : ℕ) → e < net.edges → (at net.count e ≤ 32) × (at net.start e < 2 ^ at net.count e)
 word net f e h =
-    let r = edge-fits net.nodes (graph_of net).kind (at net.from e) (at net.to e) (at net.count e) (at net.start e) (f.edge e h) in
+    let r = edge_fits_means net.nodes (graph_of net).kind (at net.from e) (at net.to e) (at net.count e) (at net.start e) (f.edge e h) in
     (r.2, r.3)
 
 pub offset_bounds-net-e : goal.offset_bounds-net-e
-offset_bounds-net-e c = omega (arith, (fit-rows _ c.requires.0).1)
+offset_bounds-net-e c = omega (arith, (fit_rows _ c.requires.0).1)
 
 pub bounds-net-e : goal.bounds-net-e
-bounds-net-e c = omega (arith, (fit-rows _ c.requires.0).1)
+bounds-net-e c = omega (arith, (fit_rows _ c.requires.0).1)
 
 pub bounds-net-e-2 : goal.bounds-net-e-2
-bounds-net-e-2 c = omega (arith, (fit-rows _ c.requires.0).1)
+bounds-net-e-2 c = omega (arith, (fit_rows _ c.requires.0).1)
 
 pub bounds-net-e-3 : goal.bounds-net-e-3
-bounds-net-e-3 c = omega (arith, (fit-rows _ c.requires.0).1)
+bounds-net-e-3 c = omega (arith, (fit_rows _ c.requires.0).1)
 
 pub loop-i-init : goal.loop-i-init
-loop-i-init c = (omega arith, shared-none _ _ _)
+loop-i-init c = (omega arith, shared_none _ _ _)
 
 pub bounds-net-i : goal.bounds-net-i
-bounds-net-i c = omega (arith, (fit-rows _ c.requires.0).1)
+bounds-net-i c = omega (arith, (fit_rows _ c.requires.0).1)
 
 pub bounds-net-i-then-net-i : goal.bounds-net-i-then-net-i
-bounds-net-i-then-net-i c = omega (arith, (fit-rows _ c.requires.0).1)
+bounds-net-i-then-net-i c = omega (arith, (fit_rows _ c.requires.0).1)
 
 pub bounds-net-i-then-net-i-2 : goal.bounds-net-i-then-net-i-2
-bounds-net-i-then-net-i-2 c = omega (arith, (fit-rows _ c.requires.0).1)
+bounds-net-i-then-net-i-2 c = omega (arith, (fit_rows _ c.requires.0).1)
 
 pub further-shared-requires : goal.further-shared-requires
 further-shared-requires c =
@@ -58,8 +58,8 @@ loop-i-preserved c =
     let s = c.loop-i.invariant.1 in (
       omega arith,
       elim c.if-net-i.branch [
-        | then-net-i w ↦ subst (λ m. Shared G R e (i + 1) m) (sym w.shared-is) (shared-further G R e s w.if-net-i.true w.further-shared.ensures)
-        | else-net-i w ↦ subst (λ m. Shared G R e (i + 1) m) (sym w.shared-is) (shared-other G R e s w.if-net-i.false)
+        | then-net-i w ↦ subst (λ m. Shared G R e (i + 1) m) (sym w.shared-is) (shared_further G R e s w.if-net-i.true w.further-shared.ensures)
+        | else-net-i w ↦ subst (λ m. Shared G R e (i + 1) m) (sym w.shared-is) (shared_other G R e s w.if-net-i.false)
       ],
     )
 
@@ -69,5 +69,5 @@ returns c =
     let e = c.args.e in
     let z : c.loop-i.i ≡ e = omega arith in
     let s = subst (λ n. Shared (graph_of net) (regs_of net) e n c.loop-i.shared) z c.loop-i.invariant.1 in
-    let p = paid-past (graph_of net) (regs_of net) e s in
+    let p = paid_past (graph_of net) (regs_of net) e s in
     (c.unshared.ensures ∙ sym p, omega (arith, (word net c.requires.0 e c.requires.1).0))

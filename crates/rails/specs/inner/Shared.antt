@@ -10,7 +10,7 @@ use Rattle.theory.specs.Move.{sum}
 use Rattle.graph.specs.Columns.{at}
 use Rattle.netlist.specs.declared.Netlist.{Netlist}
 use Rattle.netlist.specs.Net.{graph_of, regs_of}
-use Rattle.rails.specs.Rails.{agreed, sharedBelow, paidOn}
+use Rattle.rails.specs.Rails.{agreed, shared_below, paid_on}
 
 pub record Far (f : ℕ → ℕ) (w : ℕ) (g : ℕ → ℕ) (x m n : ℕ) : Type 0 where
   pub low : m ≤ n
@@ -23,8 +23,8 @@ pub record Further (f : ℕ → ℕ) (w : ℕ) (g : ℕ → ℕ) (x m n : ℕ) :
 
 pub record Shared (G : Graph) (R : Regs) (e n m : ℕ) : Type 0 where
   pub within : m ≤ R.count e
-  pub each : (d : ℕ) → d < R.count e → sharedBelow G R e d n ≡ ltb d m
+  pub each : (d : ℕ) → d < R.count e → shared_below G R e d n ≡ ltb d m
 
 pub record Counted (net : Netlist) (n total : ℕ) (rails : List ℕ) : Type 0 where
-  pub node : (u : ℕ) → u < net.nodes → at rails u ≡ sum (λ e. cond (eqb ((graph_of net).src e) u) (paidOn (graph_of net) (regs_of net) e) 0) n
-  pub all : total ≡ sum (paidOn (graph_of net) (regs_of net)) n
+  pub node : (u : ℕ) → u < net.nodes → at rails u ≡ sum (λ e. cond (eqb ((graph_of net).src e) u) (paid_on (graph_of net) (regs_of net) e) 0) n
+  pub all : total ≡ sum (paid_on (graph_of net) (regs_of net)) n

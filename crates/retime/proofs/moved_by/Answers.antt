@@ -6,45 +6,45 @@ use Rattle.netlist.specs.Circuit.{SoundIn}
 use Rattle.netlist.specs.Net.{graph_of, regs_of}
 use Rattle.simulate.specs.inner.Ran.{Steppable}
 use Rattle.lags.specs.inner.Lags.{Sure}
-use Rattle.theory.specs.Move.{chosenIn}
+use Rattle.theory.specs.Move.{chosen_in}
 use Rattle.theory.specs.Retimer.{TooMany}
-use Rattle.moves.specs.inner.Labels.{lagsOf, Labelled, Counts, Wide}
+use Rattle.moves.specs.inner.Labels.{lags_of, Labelled, Counts, Wide}
 use Rattle.moves.specs.inner.Moving.{Moving}
 use Rattle.choose.specs.inner.Chosen.{BestWords, Chosen}
-use Rattle.moves.proofs.Labels.{low-edges, wide-edge, wide-none}
-use Rattle.moves.proofs.Words.{words-short}
+use Rattle.moves.proofs.Labels.{low_edges, wide_edge, wide_none}
+use Rattle.moves.proofs.Words.{words_short}
 use Rattle.retime.specs.Retime.{MovedBy}
 use Rattle.retime.proofs.Order.{wide, moved}
-use Rattle.retime.proofs.Stages.{moves-refused}
+use Rattle.retime.proofs.Stages.{moves_refused}
 use Rattle.retime.proofs.moved_by.Goals as goal
 
 -- What is known where no count is above 32.
 moving : {net : Netlist} {lab counts : List ℕ} {r : ℕ} → Steppable net × Sure net × SoundIn net × Labelled net lab → Counts net lab counts → net.edges ≤ length counts → Wide counts net.edges r
     → net.edges ≤ r → Moving net lab counts
 moving (steppable, sure, sound, labelled) counted rows w h =
-    record { steppable = steppable; sure = sure; sound = sound; labelled = labelled; counted = counted; count-rows = rows; narrow = λ e i. w.low e (omega arith) }
+    record { steppable = steppable; sure = sure; sound = sound; labelled = labelled; counted = counted; count_rows = rows; narrow = λ e i. w.low e (omega arith) }
 
 pub too_wide-wide-requires : goal.too_wide-wide-requires
-too_wide-wide-requires c = omega (arith, low-edges _ _ c.requires.steppable.3)
+too_wide-wide-requires c = omega (arith, low_edges _ _ c.requires.steppable.3)
 
 pub returns-then-wide-edges : goal.returns-then-wide-edges
 returns-then-wide-edges c =
     let net = c.args.net in
     let lab = c.args.lab.now in
-    let w = wide-edge net lab c.new_counts-counts.result c.too_wide-wide.result c.new_counts-counts.ensures c.too_wide-wide.ensures c.if-wide-edges.true in
-    moves-refused net (lagsOf lab) (wide net (lagsOf lab) 0 c.requires.least_lags c.too_wide-wide.result w) _
+    let w = wide_edge net lab c.new_counts-counts.result c.too_wide-wide.result c.new_counts-counts.ensures c.too_wide-wide.ensures c.if-wide-edges.true in
+    moves_refused net (lags_of lab) (wide net (lags_of lab) 0 c.requires.least_lags c.too_wide-wide.result w) _
 
 pub chosen-base-requires : goal.chosen-base-requires
-chosen-base-requires c = (c.requires.steppable.3, c.new_counts-counts.ensures, omega (arith, low-edges _ _ c.requires.steppable.3))
+chosen-base-requires c = (c.requires.steppable.3, c.new_counts-counts.ensures, omega (arith, low_edges _ _ c.requires.steppable.3))
 
 pub bounds-base-edges : goal.bounds-base-edges
-bounds-base-edges c = omega (arith, low-edges _ _ c.requires.steppable.3)
+bounds-base-edges c = omega (arith, low_edges _ _ c.requires.steppable.3)
 
 pub choose-c-requires : goal.choose-c-requires
 choose-c-requires c = record {
-  moving = moving c.requires.steppable c.new_counts-counts.ensures (omega (arith, low-edges _ _ c.requires.steppable.3)) c.too_wide-wide.ensures c.if-wide-edges.false;
+  moving = moving c.requires.steppable c.new_counts-counts.ensures (omega (arith, low_edges _ _ c.requires.steppable.3)) c.too_wide-wide.ensures c.if-wide-edges.false;
   based = c.chosen-base.ensures;
-  base-rows = omega (arith, low-edges _ _ c.requires.steppable.3);
+  base_rows = omega (arith, low_edges _ _ c.requires.steppable.3);
   chosen = refl;
   few = omega arith;
 }
@@ -55,9 +55,9 @@ moved-requires c =
     let lab = c.args.lab.now in
     let words = c.choose-c.result.words in
     let rows : length words ≡ 1024 = search rules in
-    let b : BestWords net (lagsOf lab) words = subst (λ b. Chosen net (lagsOf lab) b words) c.if-not-c.false c.choose-c.ensures in (
-      moving c.requires.steppable c.new_counts-counts.ensures (omega (arith, low-edges _ _ c.requires.steppable.3)) c.too_wide-wide.ensures c.if-wide-edges.false,
-      words-short _ _ b.number _ (omega (arith, low-edges _ _ c.requires.steppable.3)) b.its-words,
+    let b : BestWords net (lags_of lab) words = subst (λ b. Chosen net (lags_of lab) b words) c.if-not-c.false c.choose-c.ensures in (
+      moving c.requires.steppable c.new_counts-counts.ensures (omega (arith, low_edges _ _ c.requires.steppable.3)) c.too_wide-wide.ensures c.if-wide-edges.false,
+      words_short _ _ b.number _ (omega (arith, low_edges _ _ c.requires.steppable.3)) b.its_words,
     )
 
 pub returns : goal.returns
@@ -65,12 +65,12 @@ returns c =
     let net = c.args.net in
     let lab = c.args.lab.now in
     let words = c.choose-c.result.words in
-    let b : BestWords net (lagsOf lab) words = subst (λ b. Chosen net (lagsOf lab) b words) c.if-not-c.false c.choose-c.ensures in
-    let all : get_or c.chosen-base.result net.edges 0 ≡ chosenIn (graph_of net) (regs_of net).count (lagsOf lab) = c.chosen-base.ensures _ (omega arith) in
-    let narrow = wide-none net lab c.new_counts-counts.result c.too_wide-wide.result c.new_counts-counts.ensures c.too_wide-wide.ensures (λ h. omega (arith, c.if-wide-edges.false)) in
-    let few : ¬ TooMany (graph_of net) (regs_of net).count (lagsOf lab) = λ h. omega (arith, all) in
+    let b : BestWords net (lags_of lab) words = subst (λ b. Chosen net (lags_of lab) b words) c.if-not-c.false c.choose-c.ensures in
+    let all : get_or c.chosen-base.result net.edges 0 ≡ chosen_in (graph_of net) (regs_of net).count (lags_of lab) = c.chosen-base.ensures _ (omega arith) in
+    let narrow = wide_none net lab c.new_counts-counts.result c.too_wide-wide.result c.new_counts-counts.ensures c.too_wide-wide.ensures (λ h. omega (arith, c.if-wide-edges.false)) in
+    let few : ¬ TooMany (graph_of net) (regs_of net).count (lags_of lab) = λ h. omega (arith, all) in
     record {
       choice = b.number;
-      answer = subst (MovedBy net (lagsOf lab) b.number) (ap value (sym all)) (moved net (lagsOf lab) b.number c.requires.least_lags narrow few b.best);
-      moved = λ k z. c.moved.ensures b.number b.its-words;
+      answer = subst (MovedBy net (lags_of lab) b.number) (ap value (sym all)) (moved net (lags_of lab) b.number c.requires.least_lags narrow few b.best);
+      moved = λ k z. c.moved.ensures b.number b.its_words;
     }

@@ -4,9 +4,9 @@ use lib.ListN.{set}
 use mathlib.Core.Path.{ap₂}
 use mir.Syntax.{w32}
 use mir.Facts.{to_z-of_z}
-use Rattle.lags.proofs.Laws.{lag-fits}
+use Rattle.lags.proofs.Laws.{lag_fits}
 use Rattle.netlist.specs.Write.{joined}
-use Rattle.moves.specs.inner.Labels.{lagsOf}
+use Rattle.moves.specs.inner.Labels.{lags_of}
 use Rattle.moves.proofs.Rows.{rows_more}
 use Rattle.retime.proofs.put_lags.Goals as goal
 
@@ -18,5 +18,5 @@ pub loop-v-preserved : goal.loop-v-preserved
 loop-v-preserved c =
     let a = c.args in
     let i = c.loop-v.v in
-    let v = to_z-of_z {w = w32} {z = c.lag_of.result} (rw c.lag_of.ensures (lag-fits _ (c.requires.by_index i (omega arith)))) ∙ c.lag_of.ensures in
-    (omega arith, rw (add-one i) (ap₂ (λ l x. set l i x) c.loop-v.invariant.1 v ∙ rows_more (lagsOf a.lab.now) i a.lags.now (omega arith)))
+    let v = to_z-of_z {w = w32} {z = c.lag_of.result} (rw c.lag_of.ensures (lag_fits _ (c.requires.by_index i (omega arith)))) ∙ c.lag_of.ensures in
+    (omega arith, rw (add-one i) (ap₂ (λ l x. set l i x) c.loop-v.invariant.1 v ∙ rows_more (lags_of a.lab.now) i a.lags.now (omega arith)))

@@ -2,7 +2,7 @@
 use Rattle.std.proofs.Common.{subst}
 use Rattle.netlist.specs.Answer.{value}
 use Rattle.netlist.specs.Read.{Reads}
-use Rattle.netlist.proofs.theorems.Sound.{reads-text}
+use Rattle.netlist.proofs.theorems.Sound.{reads_text}
 use Rattle.retime.proofs.Stages.{stop, reads, goes_on}
 use Rattle.retime.proofs.retime.Goals as goal
 
@@ -16,7 +16,7 @@ pub retime_net-requires : goal.retime_net-requires
 retime_net-requires c =
     let a = c.args in
     let h = reads a.text.now a.out.now a.lags.now _ _ c.read-reading.ensures c.in-Done.is in
-    subst (λ t. Reads t (value 0) c.read-reading.result.net) (reads-text h) h
+    subst (λ t. Reads t (value 0) c.read-reading.result.net) (reads_text h) h
 
 pub returns : goal.returns
 returns c =

@@ -1,6 +1,6 @@
 -- `retime::retime_net` meets its contract: 12, 8, and else what is said of the least lags.
 use Rattle.std.proofs.Common.{◌≡◌, length, arith, rules, inl, inr}
-use Rattle.lags.proofs.Laws.{read-sure}
+use Rattle.lags.proofs.Laws.{read_sure}
 use Rattle.retime.specs.Retime.{Room}
 use Rattle.retime.proofs.Call.{short, none}
 use Rattle.retime.proofs.Stages.{labelled}
@@ -13,7 +13,7 @@ pub returns-then-lags-nodes : goal.returns-then-lags-nodes
 returns-then-lags-nodes c = let a = c.args in short a.out.now a.lags.now a.net (inr c.if-lags-nodes.true)
 
 pub least-labels-requires : goal.least-labels-requires
-least-labels-requires c = (read-sure _ c.args.net c.requires, omega arith)
+least-labels-requires c = (read_sure _ c.args.net c.requires, omega arith)
 
 pub returns-then-not-labels : goal.returns-then-not-labels
 returns-then-not-labels c =

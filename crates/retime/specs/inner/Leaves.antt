@@ -5,22 +5,22 @@
 use Rattle.std.specs.Prelude.{◌≡◌, List, ℕ, ℤ}
 use Rattle.netlist.specs.declared.Netlist.{Netlist}
 use Rattle.netlist.specs.Answer.{Said, value, whole, holds}
-use Rattle.netlist.specs.Order.{◌orElse◌, Given}
+use Rattle.netlist.specs.Order.{◌or_else◌, Given}
 use Rattle.netlist.specs.Write.{text_of}
-use Rattle.moves.specs.Moved.{movedNet}
-use Rattle.retime.specs.Retime.{NoneMeets, lagTable, MovedBy, Short}
+use Rattle.moves.specs.Moved.{moved_net}
+use Rattle.retime.specs.Retime.{NoneMeets, lag_table, MovedBy, Short}
 
 abbrev pub FromShort : List ℕ → List ℤ → Netlist → (ℕ → ℤ) → ℕ → Said → Type 0
-FromShort out lags net r c = Given (Short out lags net) (whole 12) orElse Given (NoneMeets net) (whole 8) orElse MovedBy net r c
+FromShort out lags net r c = Given (Short out lags net) (whole 12) or_else Given (NoneMeets net) (whole 8) or_else MovedBy net r c
 
 pub record Leaves (F : (ℕ → ℤ) → ℕ → Said → Type 0) (net : Netlist) (out : List ℕ) (lags : List ℤ) (s : Said) (out' : List ℕ) (lags' : List ℤ) : Type 0 where
   pub lag : ℕ → ℤ
   pub choice : ℕ
   pub answer : F lag choice s
-  pub buffer : out' ≡ holds s (text_of (movedNet net lag choice)) out
-  pub table : lags' ≡ holds s (lagTable net lag) lags
+  pub buffer : out' ≡ holds s (text_of (moved_net net lag choice)) out
+  pub table : lags' ≡ holds s (lag_table net lag) lags
 
 pub record MovesTo (net : Netlist) (r : ℕ → ℤ) (s : Said) (new : Netlist) : Type 0 where
   pub choice : ℕ
   pub answer : MovedBy net r choice s
-  pub moved : (k : ℕ) → s ≡ value k → new ≡ movedNet net r choice
+  pub moved : (k : ℕ) → s ≡ value k → new ≡ moved_net net r choice

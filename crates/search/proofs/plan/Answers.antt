@@ -2,7 +2,7 @@
 use Rattle.std.proofs.Common.{arith, refl, ap, sym}
 use native.Mathlib.Numerals.{add-one}
 use Rattle.graph.specs.Columns.{at}
-use Rattle.search.proofs.Solved.{plan-of}
+use Rattle.search.proofs.Solved.{plan_of}
 use Rattle.search.proofs.plan.Goals as goal
 
 pub returns : goal.returns
@@ -16,7 +16,7 @@ returns c =
       bits = refl;
       cells = e;
       plan = λ P f v.
-          plan-of c.two_to-limit.ensures (rw e f) (rw e v) (rw e o.0.cell) o.0.few (omega arith) c.levels_of.ensures
+          plan_of c.two_to-limit.ensures (rw e f) (rw e v) (rw e o.0.cell) o.0.few (omega arith) c.levels_of.ensures
           (omega arith) (omega arith) (omega (arith, r.type_inv)) (sym (ap (at r.result) (add-one s.bits))) r.ensures.rows r.ensures.same_dues;
       same = r.ensures.same_dues;
     }

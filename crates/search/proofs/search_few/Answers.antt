@@ -2,7 +2,7 @@
 use Rattle.std.proofs.Common.{ℕ, arith}
 use Rattle.std.proofs.lemmas.List.{get_or-replicate}
 use Rattle.search.specs.inner.Program.{program_of}
-use Rattle.search.proofs.Solved.{solves-planned}
+use Rattle.search.proofs.Solved.{solves_planned}
 use Rattle.search.proofs.search_few.Goals as goal
 
 pub best_list-requires : goal.best_list-requires
@@ -17,4 +17,4 @@ best_list-requires c =
 pub returns : goal.returns
 returns c =
     let a = c.args in
-    solves-planned c.plan-e.ensures (program_of a.kind.now a.first.now a.operand.now) a.fill.now _ _ c.best_list.ensures
+    solves_planned c.plan-e.ensures (program_of a.kind.now a.first.now a.operand.now) a.fill.now _ _ c.best_list.ensures

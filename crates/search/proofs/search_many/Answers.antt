@@ -2,7 +2,7 @@
 use Rattle.std.proofs.Common.{ℕ, arith}
 use Rattle.std.proofs.lemmas.List.{get_or-replicate}
 use Rattle.search.specs.inner.Program.{program_of}
-use Rattle.search.proofs.Solved.{solves-planned}
+use Rattle.search.proofs.Solved.{solves_planned}
 use Rattle.search.proofs.search_many.Goals as goal
 
 pub best_list-requires : goal.best_list-requires
@@ -10,11 +10,11 @@ best_list-requires c =
     let g = c.requires in
     let e = c.plan-e.ensures in
     record {
-      planned = (e.plan _ g.program g.levelled, (omega (arith, e.cells, g.program.few-cells), omega (arith, e.cells, g.program.few-cells), λ x h. get_or-replicate {A = ℕ} 12320 x 0 0 (omega arith)));
+      planned = (e.plan _ g.program g.levelled, (omega (arith, e.cells, g.program.few_cells), omega (arith, e.cells, g.program.few_cells), λ x h. get_or-replicate {A = ℕ} 12320 x 0 0 (omega arith)));
       fillable = rw (e.cells, e.bits) g.fillable;
     }
 
 pub returns : goal.returns
 returns c =
     let a = c.args in
-    solves-planned c.plan-e.ensures (program_of a.kind.now a.first.now a.operand.now) a.fill.now _ _ c.best_list.ensures
+    solves_planned c.plan-e.ensures (program_of a.kind.now a.first.now a.operand.now) a.fill.now _ _ c.best_list.ensures

@@ -4,8 +4,8 @@
 --   Program             its columns: the kind of each cell's gate, where the cell's operands begin, and all operands
 --   program_of           these columns together
 --   look k c vals x     what the operand x shows: below 32 the chosen bit x, else the value of cell x − 32
---   operandsOf          the operands of a cell
---   valuesTo, value_at   under the choice c of k bits: the values of the first n cells, the value of cell i
+--   operands_of         the operands of a cell
+--   values_to, value_at  under the choice c of k bits: the values of the first n cells, the value of cell i
 --   RightProgram        the gates keep their rules, and their operands are bits below k and earlier cells
 --   Owes                what is due: the number 2 i + x says that cell i must give x; the dues are in rows, each a run of one edge's moved clocks
 --   GivesDues           every cell gives what is due of it
@@ -32,26 +32,26 @@ unfoldable pub look : ℕ → ℕ → List ℕ → ℕ → ℕ
 look k c vals x = cond (ltb x 32) (digit k c x) (at vals (x - 32))
 
 -- Those of cell i are at the places from first(i) up to first(i + 1).
-abbrev pub operandsOf : List ℕ → List ℕ → ℕ → List ℕ
-operandsOf first operand i = part operand (at first i) (at first (suc i))
+abbrev pub operands_of : List ℕ → List ℕ → ℕ → List ℕ
+operands_of first operand i = part operand (at first i) (at first (suc i))
 
-unfoldable pub valuesTo : Program → ℕ → ℕ → ℕ → List ℕ
-valuesTo P k c zero = []
-valuesTo P k c (suc n) =
-    let vals = valuesTo P k c n in
-    vals ++ (gate (at P.kind n) (map (look k c vals) (operandsOf P.first P.operand n)) ∷ [])
+unfoldable pub values_to : Program → ℕ → ℕ → ℕ → List ℕ
+values_to P k c zero = []
+values_to P k c (suc n) =
+    let vals = values_to P k c n in
+    vals ++ (gate (at P.kind n) (map (look k c vals) (operands_of P.first P.operand n)) ∷ [])
 
 abbrev pub value_at : Program → ℕ → ℕ → ℕ → ℕ
-value_at P k c i = at (valuesTo P k c (suc i)) i
+value_at P k c i = at (values_to P k c (suc i)) i
 
 pub record RightProgram (cells k : ℕ) (P : Program) : Type 0 where
   pub few_bits : k ≤ 24
-  pub few-cells : cells ≤ 12288
-  pub kind-rows : cells ≤ length P.kind
+  pub few_cells : cells ≤ 12288
+  pub kind_rows : cells ≤ length P.kind
   pub first_rows : suc cells ≤ length P.first
   pub gates : (i : ℕ) → i < cells → at P.kind i < 11
   pub rising : (i : ℕ) → i < cells → at P.first i ≤ at P.first (suc i)
-  pub few-ins : (i : ℕ) → i < cells → at P.first (suc i) ≤ at P.first i + 8
+  pub few_ins : (i : ℕ) → i < cells → at P.first (suc i) ≤ at P.first i + 8
   pub selectors : (i : ℕ) → i < cells → at P.kind i ≡ 10 → at P.first (suc i) ≡ at P.first i + 3
   pub in_rows : (i : ℕ) → i < cells → at P.first (suc i) ≤ length P.operand
   pub earlier : (i j : ℕ) → i < cells → at P.first i ≤ j → j < at P.first (suc i)
@@ -59,8 +59,8 @@ pub record RightProgram (cells k : ℕ) (P : Program) : Type 0 where
 
 -- Row e is at the places from begin(e) up to begin(e + 1).
 pub record Owes (cells : ℕ) (due begin : List ℕ) (edges : ℕ) : Type 0 where
-  pub begin-rows : edges < length begin
-  pub due-rows : at begin edges ≤ length due
+  pub begin_rows : edges < length begin
+  pub due_rows : at begin edges ≤ length due
   pub few : at begin edges ≤ 24576
   pub none : at begin 0 ≡ 0
   pub rising : (e : ℕ) → e < edges → (at begin e ≤ at begin (suc e)) × (at begin (suc e) ≤ at begin e + 24)

@@ -1,8 +1,8 @@
 -- What the functions of the search promise each other. Signals are what each operand shows: the chosen bit x at x, the value of cell i at 32 + i.
---   nextAfter c b       the first choice above c that differs from it in a bit from place b up
+--   next_after c b      the first choice above c that differs from it in a bit from place b up
 --   ChoiceShown k c sig  the first k signals are the bits of the choice c
 --   Evaluator           a program made ready: its gates' truth words, the table that picks their bits, and its operands
---   evaluatorOf         these columns together; programIn is the program, once the kinds of its gates are known
+--   evaluator_of        these columns together; program_in is the program, once the kinds of its gates are known
 --   Truthful            each cell has a truth word of its gate
 --   Executable          a right program made ready
 --   Valued c p sig      the signals are the bits of c and the values of the cells below p
@@ -40,19 +40,19 @@ pub record Evaluator : Type 0 where
   pub first : List ℕ
   pub operand : List ℕ
 
-abbrev pub evaluatorOf : List ℕ → List ℕ → List ℕ → List ℕ → Evaluator
-evaluatorOf truth index first operand = record { truth = truth; index = index; first = first; operand = operand }
+abbrev pub evaluator_of : List ℕ → List ℕ → List ℕ → List ℕ → Evaluator
+evaluator_of truth index first operand = record { truth = truth; index = index; first = first; operand = operand }
 
-abbrev pub programIn : Evaluator → List ℕ → Program
-programIn E kind = program_of kind E.first E.operand
+abbrev pub program_in : Evaluator → List ℕ → Program
+program_in E kind = program_of kind E.first E.operand
 
 abbrev pub Truthful : ℕ → List ℕ → List ℕ → List ℕ → Type 0
 Truthful cells kind first truth = (i : ℕ) → i < cells → Reckons (at kind i) (at first (suc i) - at first i) (at truth i)
 
 pub record Executable (cells k : ℕ) (kind : List ℕ) (E : Evaluator) : Type 0 where
-  pub program : RightProgram cells k (programIn E kind)
+  pub program : RightProgram cells k (program_in E kind)
   pub table : Table E.index
-  pub truth-rows : cells ≤ length E.truth
+  pub truth_rows : cells ≤ length E.truth
   pub truths : Truthful cells kind E.first E.truth
 
 pub record Valued (cells k : ℕ) (P : Program) (c p : ℕ) (sig : List ℕ) : Type 0 where
@@ -67,13 +67,13 @@ pub record CanEvaluate (E : Evaluator) (start end : ℕ) (sig : List ℕ) : Type
   pub choice : ℕ
   pub kind : List ℕ
   pub ready : Executable cells k kind E
-  pub valued : Valued cells k (programIn E kind) choice start sig
+  pub valued : Valued cells k (program_in E kind) choice start sig
   pub within : end ≤ cells
 
 -- Whatever right program this is, and whatever choice: if the cells below p are evaluated, those below q are in the signals after.
 abbrev pub GoesOn : Evaluator → ℕ → ℕ → List ℕ → ℕ → List ℕ → Type 0
 GoesOn E end p old q sig = (cells k c : ℕ) (kind : List ℕ) → Executable cells k kind E → end ≤ cells
-    → Valued cells k (programIn E kind) c p old → Valued cells k (programIn E kind) c q sig
+    → Valued cells k (program_in E kind) c p old → Valued cells k (program_in E kind) c q sig
 
 pub record EvaluatedTo (E : Evaluator) (start end : ℕ) (old sig : List ℕ) (r : ℕ) : Type 0 where
   pub after : start ≤ r
@@ -82,25 +82,25 @@ pub record EvaluatedTo (E : Evaluator) (start end : ℕ) (old sig : List ℕ) (r
 
 -- ── Choices ─────────────────────────────────────────────────────────────────────────────────
 
-abbrev pub nextAfter : ℕ → ℕ → ℕ
-nextAfter c b = suc (c / 2 ^ b) * 2 ^ b
+abbrev pub next_after : ℕ → ℕ → ℕ
+next_after c b = suc (c / 2 ^ b) * 2 ^ b
 
 -- Two choices of k bits agree on their first x − 1 bits where they agree from place suc k − x up.
 pub record Advanced (k m : ℕ) (old sig : List ℕ) (r : ℕ) : Type 0 where
   pub most : r ≤ m
   pub cells : (j : ℕ) → k ≤ j → at sig j ≡ at old j
-  pub bits : (c : ℕ) → c < 2 ^ k → ChoiceShown k c old → ChoiceShown k (nextAfter c (k - m)) sig
-  pub agree : (c : ℕ) → c < 2 ^ k → ChoiceShown k c old → c / 2 ^ (suc k - r) ≡ nextAfter c (k - m) / 2 ^ (suc k - r)
+  pub bits : (c : ℕ) → c < 2 ^ k → ChoiceShown k c old → ChoiceShown k (next_after c (k - m)) sig
+  pub agree : (c : ℕ) → c < 2 ^ k → ChoiceShown k c old → c / 2 ^ (suc k - r) ≡ next_after c (k - m) / 2 ^ (suc k - r)
 
 pub record Jumped (c k m : ℕ) (levels rows old sig : List ℕ) (t : Turn) : Type 0 where
-  pub next : t.choice ≡ nextAfter c (k - m)
+  pub next : t.choice ≡ next_after c (k - m)
   pub bits : ChoiceShown k t.choice sig
   pub cells : (j : ℕ) → k ≤ j → at sig j ≡ at old j
   pub level : ℕ
   pub most : level ≤ m
   pub agree : c / 2 ^ (suc k - level) ≡ t.choice / 2 ^ (suc k - level)
   pub cell_at : t.cell ≡ at levels level
-  pub due-at : t.due ≡ at rows level
+  pub due_at : t.due ≡ at rows level
 
 -- ── Lists ───────────────────────────────────────────────────────────────────────────────────
 
@@ -122,12 +122,12 @@ pub record Plan (e : Extent) (P : Program) (level row left : List ℕ) : Type 0 
   pub limit : e.limit ≡ 2 ^ e.bits
   pub program : RightProgram e.cells e.bits P
   pub levelled : Levelled e.cells e.bits P e.levels
-  pub level-rows : e.cells ≤ length level
-  pub level-of : (i : ℕ) → i < e.cells → Level e.levels (suc e.bits) i (at level i)
-  pub row-rows : e.dues ≤ length row
-  pub left-rows : e.dues ≤ length left
-  pub few-dues : e.dues ≤ 24576
-  pub rows-rows : suc e.bits < length e.rows
+  pub level_rows : e.cells ≤ length level
+  pub level_of : (i : ℕ) → i < e.cells → Level e.levels (suc e.bits) i (at level i)
+  pub row_rows : e.dues ≤ length row
+  pub left_rows : e.dues ≤ length left
+  pub few_dues : e.dues ≤ 24576
+  pub rows_rows : suc e.bits < length e.rows
   pub whole : at e.rows (suc e.bits) ≡ e.dues
   pub cell : (d : ℕ) → d < e.dues → at row d / 2 < e.cells
   pub in_rows : Rows (suc e.bits) level row left e.rows

@@ -1,10 +1,10 @@
 -- The parts of one clock, on columns: node v's signal stands at v, what edge e shows from its register at 512 + e. All signals are bits.
 --   Within list n size  the first n places of the list hold numbers below size
 --   written place f n l the list l, with f i stored at place i for each i below n in turn
---   withInputs          the signals, with a vector's bytes at the listed nodes
---   withRegisters       so with what the listed edges show from their registers
---   withOutputs         a buffer, with the signals of the listed nodes from a place on
---   shiftedAt, withShifts   an edge's word moved on; the words, with those of the listed edges moved on
+--   with_inputs         the signals, with a vector's bytes at the listed nodes
+--   with_registers      so with what the listed edges show from their registers
+--   with_outputs        a buffer, with the signals of the listed nodes from a place on
+--   shifted_at, with_shifts  an edge's word moved on; the words, with those of the listed edges moved on
 --   EdgeMovable, Movable    what moving on one word asks of the columns; so of the listed edges, none of which is listed twice
 use Rattle.std.specs.Prelude.{◌≡◌, List, ℕ, zero, suc, ◌+◌, ◌%◌, ◌^◌, ◌<◌, ◌≤◌, length, set}
 use Rattle.graph.specs.Columns.{at}
@@ -20,25 +20,25 @@ written place f (suc n) l = set (written place f n l) (place n) (f n)
 
 -- ── The pins and the registers ──────────────────────────────────────────────────────────────
 
-abbrev pub withInputs : List ℕ → ℕ → List ℕ → ℕ → List ℕ → List ℕ
-withInputs inputs n vectors at0 sig = written (at inputs) (λ i. at vectors (at0 + i)) n sig
+abbrev pub with_inputs : List ℕ → ℕ → List ℕ → ℕ → List ℕ → List ℕ
+with_inputs inputs n vectors at0 sig = written (at inputs) (λ i. at vectors (at0 + i)) n sig
 
-abbrev pub withRegisters : List ℕ → ℕ → List ℕ → List ℕ → List ℕ
-withRegisters registers n words sig = written (λ i. 512 + at registers i) (λ i. at words (at registers i) % 2) n sig
+abbrev pub with_registers : List ℕ → ℕ → List ℕ → List ℕ → List ℕ
+with_registers registers n words sig = written (λ i. 512 + at registers i) (λ i. at words (at registers i) % 2) n sig
 
-abbrev pub withOutputs : List ℕ → ℕ → List ℕ → ℕ → List ℕ → List ℕ
-withOutputs outputs n sig at0 out = written (λ i. at0 + i) (λ i. at sig (at outputs i)) n out
+abbrev pub with_outputs : List ℕ → ℕ → List ℕ → ℕ → List ℕ → List ℕ
+with_outputs outputs n sig at0 out = written (λ i. at0 + i) (λ i. at sig (at outputs i)) n out
 
 -- ── The words ───────────────────────────────────────────────────────────────────────────────
 
-abbrev pub shiftedAt : List ℕ → List ℕ → List ℕ → List ℕ → ℕ → ℕ
-shiftedAt from count sig words e = shifted (at count e) (at words e) (at sig (at from e))
+abbrev pub shifted_at : List ℕ → List ℕ → List ℕ → List ℕ → ℕ → ℕ
+shifted_at from count sig words e = shifted (at count e) (at words e) (at sig (at from e))
 
-abbrev pub withShifts : List ℕ → ℕ → List ℕ → List ℕ → List ℕ → List ℕ → List ℕ
-withShifts registers n from count sig words = written (at registers) (λ i. shiftedAt from count sig words (at registers i)) n words
+abbrev pub with_shifts : List ℕ → ℕ → List ℕ → List ℕ → List ℕ → List ℕ → List ℕ
+with_shifts registers n from count sig words = written (at registers) (λ i. shifted_at from count sig words (at registers i)) n words
 
 pub record EdgeMovable (from count words : List ℕ) (size e : ℕ) : Type 0 where
-  pub in-from : e < length from
+  pub in_from : e < length from
   pub in_count : e < length count
   pub in_words : e < length words
   pub source : at from e < size

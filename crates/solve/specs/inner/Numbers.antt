@@ -1,7 +1,7 @@
 -- New numbers for the cells: by level, the leading bits that a cell depends on, and each after the cells that it needs.
 -- `id` has a cell's number, 12,288 where it has none yet; `code` has a number's cell.
 --   Layers              what the numbering is given: so many cells, where the operands of each begin, all operands, and a level for each cell
---   layersOf            these together
+--   layers_of           these together
 --   Layered             the level of a cell is no lower than that of a cell that it needs
 --   Missing             a cell of the same level that cell i needs and that has no number yet, or that there is none
 --   Numbered            n numbers are given: to all cells of levels below m and some of level m, each after what it needs
@@ -32,12 +32,12 @@ pub record Layers : Type 0 where
   pub operand : List ℕ
   pub span : List ℕ
 
-abbrev pub layersOf : ℕ → List ℕ → List ℕ → List ℕ → Layers
-layersOf cells first operand span = record { cells = cells; first = first; operand = operand; span = span }
+abbrev pub layers_of : ℕ → List ℕ → List ℕ → List ℕ → Layers
+layers_of cells first operand span = record { cells = cells; first = first; operand = operand; span = span }
 
 pub record Layered (L : Layers) : Type 0 where
   pub wired : OperandsWired L.cells L.first L.operand
-  pub span-rows : L.cells ≤ length L.span
+  pub span_rows : L.cells ≤ length L.span
   pub above : (i j : ℕ) → i < L.cells → at L.first i ≤ j → j < at L.first (suc i) → 32 ≤ at L.operand j
       → at L.span (at L.operand j - 32) ≤ at L.span i
 
@@ -48,8 +48,8 @@ pub record Missing (L : Layers) (id : List ℕ) (i r : ℕ) : Type 0 where
 
 pub record Numbered (L : Layers) (m n : ℕ) (id code : List ℕ) : Type 0 where
   pub few : n ≤ L.cells
-  pub id-rows : L.cells ≤ length id
-  pub code-rows : L.cells ≤ length code
+  pub id_rows : L.cells ≤ length id
+  pub code_rows : L.cells ≤ length code
   pub cell : (q : ℕ) → q < n → at code q < L.cells
   pub number : (q : ℕ) → q < n → at id (at code q) ≡ q
   pub each : (i : ℕ) → i < L.cells → (at id i ≡ 12288) ⊎ ((at id i < n) × (at code (at id i) ≡ i))
@@ -84,13 +84,13 @@ pub record CanNumber (cells k : ℕ) (first operand due id code : List ℕ) : Ty
   pub bits : BitsBelow cells k first operand
   pub few_bits : k ≤ 24
   pub cell : (x : ℕ) → x < length due → at due x / 2 < cells
-  pub id-rows : cells ≤ length id
-  pub code-rows : cells ≤ length code
+  pub id_rows : cells ≤ length id
+  pub code_rows : cells ≤ length code
   pub none : (i : ℕ) → i < cells → at id i ≡ 12288
 
 pub record Paired (cells : ℕ) (id code : List ℕ) : Type 0 where
-  pub id-rows : cells ≤ length id
-  pub code-rows : cells ≤ length code
+  pub id_rows : cells ≤ length id
+  pub code_rows : cells ≤ length code
   pub cell : (q : ℕ) → q < cells → at code q < cells
   pub number : (q : ℕ) → q < cells → at id (at code q) ≡ q
   pub each : (i : ℕ) → i < cells → (at id i < cells) × (at code (at id i) ≡ i)

@@ -16,7 +16,7 @@ pub record Most (operand span : List ℕ) (start end r : ℕ) : Type 0 where
 
 -- An operand is a chosen bit, below 32, or an earlier cell.
 pub record OperandsWired (cells : ℕ) (first operand : List ℕ) : Type 0 where
-  pub few-cells : cells ≤ 12288
+  pub few_cells : cells ≤ 12288
   pub first_rows : suc cells ≤ length first
   pub in_rows : (i : ℕ) → i < cells → at first (suc i) ≤ length operand
   pub earlier : (i j : ℕ) → i < cells → at first i ≤ j → j < at first (suc i) → at operand j < 32 + i

@@ -2,7 +2,7 @@
 --   turned j c          slot c, j rows further
 --   Clocked             one clock of a gate: its value is put, its slots are a row further
 --   ahead               the ring after j clocks of a gate
---   allAhead            the ring after 32 clocks of each of the first n gates of a list, each from those before it
+--   all_ahead           the ring after 32 clocks of each of the first n gates of a list, each from those before it
 --   Places              the last place of each node in a list, from 1 on, and 0 where it stands nowhere
 --   LeadsOn             each edge between two nodes of the list leads on in it, or has 32 registers
 --   Leading             so for the places in the list
@@ -19,7 +19,7 @@ turned zero c = c
 turned (suc j) c = further (turned j c)
 
 pub record Clocked (truth inputs place : ℕ) (own ring own' ring' : List ℕ) : Type 0 where
-  pub further-all : (k : ℕ) → k < inputs → at own' k ≡ further (at own k)
+  pub further_all : (k : ℕ) → k < inputs → at own' k ≡ further (at own k)
   pub found : ℕ
   pub bit_found : found ≤ 1
   pub puts : ring' ≡ set ring place found
@@ -32,11 +32,11 @@ ahead kind slots lo hi place (suc j) ring =
     let before = ahead kind slots lo hi place j ring in
     set before (place + j * 512) (gate kind (map (at before) (part (map (turned j) slots) lo hi)))
 
-unfoldable pub allAhead : List ℕ → List ℕ → List ℕ → List ℕ → ℕ → ℕ → List ℕ → List ℕ
-allAhead kind node first slots base zero ring = ring
-allAhead kind node first slots base (suc n) ring =
+unfoldable pub all_ahead : List ℕ → List ℕ → List ℕ → List ℕ → ℕ → ℕ → List ℕ → List ℕ
+all_ahead kind node first slots base zero ring = ring
+all_ahead kind node first slots base (suc n) ring =
     let v = at node n in
-    ahead (at kind v) slots (at first v) (at first (suc v)) (base + v) 32 (allAhead kind node first slots base n ring)
+    ahead (at kind v) slots (at first v) (at first (suc v)) (base + v) 32 (all_ahead kind node first slots base n ring)
 
 pub record Places (list : List ℕ) (n : ℕ) (place : List ℕ) : Type 0 where
   pub past : (i : ℕ) → i < n → i < at place (at list i)
@@ -55,4 +55,4 @@ Strides from to count edges list n s r = (r ≡ 1) ⊎ ((r ≡ 32) × (32 ≤ s)
 
 abbrev pub Taken : List ℕ → List ℕ → List ℕ → List ℕ → ℕ → ℕ → ℕ → List ℕ → List ℕ → Type 0
 Taken kind node first slots base gates clocks ring ring' =
-    ((clocks ≤ 1) × (ring' ≡ evaluated kind node first slots base gates ring)) ⊎ ((1 < clocks) × (ring' ≡ allAhead kind node first slots base gates ring))
+    ((clocks ≤ 1) × (ring' ≡ evaluated kind node first slots base gates ring)) ⊎ ((1 < clocks) × (ring' ≡ all_ahead kind node first slots base gates ring))

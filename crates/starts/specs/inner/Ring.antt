@@ -4,7 +4,7 @@
 --   AskedAt lab t v     node v is asked for at clock t: its lag is below −t
 --   Followed            what is left in the ring: of each node the last 32 values that are asked for
 --   NothingYet          nothing is in the rows yet
---   slot_of, edgeSlot   where the value stands that an edge shows in clock s: by its source u, its w registers and their start values `word`; of edge e
+--   slot_of, edge_slot  where the value stands that an edge shows in clock s: by its source u, its w registers and their start values `word`; of edge e
 --   Slots               the slots from place lo up to place hi are those of the edges there
 --   Puts                they are put there, and nothing else is
 --   SlotsOf             the slots are right at the places of the first n nodes of a list
@@ -36,7 +36,7 @@ pub record Followed (net : Netlist) (lab ring : List ℕ) : Type 0 where
   pub last : (v t : ℕ) → v < net.nodes → AskedAt lab t v → 16384 ≤ t + 32 + at lab v → at ring (row t + v) ≡ quietly net v t
 
 pub record NothingYet (ring : List ℕ) : Type 0 where
-  pub zero-all : (k : ℕ) → k < 32769 → at ring k ≡ 0
+  pub zero_all : (k : ℕ) → k < 32769 → at ring k ≡ 0
   pub one : at ring 32769 ≡ 1
 
 -- ── Slots ───────────────────────────────────────────────────────────────────────────────────
@@ -45,11 +45,11 @@ pub record NothingYet (ring : List ℕ) : Type 0 where
 unfoldable pub slot_of : ℕ → ℕ → ℕ → ℕ → ℕ
 slot_of u w word s = cond (ltb s w) (32768 + bit word s) (row (s - w) + u)
 
-abbrev pub edgeSlot : List ℕ → List ℕ → List ℕ → ℕ → ℕ → ℕ
-edgeSlot from count start s e = slot_of (at from e) (at count e) (at start e) s
+abbrev pub edge_slot : List ℕ → List ℕ → List ℕ → ℕ → ℕ → ℕ
+edge_slot from count start s e = slot_of (at from e) (at count e) (at start e) s
 
 abbrev pub Slots : List ℕ → List ℕ → List ℕ → List ℕ → ℕ → ℕ → ℕ → List ℕ → Type 0
-Slots ins from count start s lo hi slots = (k : ℕ) → lo ≤ k → k < hi → at slots k ≡ edgeSlot from count start s (at ins k)
+Slots ins from count start s lo hi slots = (k : ℕ) → lo ≤ k → k < hi → at slots k ≡ edge_slot from count start s (at ins k)
 
 pub record Puts (ins from count start : List ℕ) (s lo hi : ℕ) (old new : List ℕ) : Type 0 where
   pub done : Slots ins from count start s lo hi new
@@ -69,8 +69,8 @@ pub record EdgeRows (from count start : List ℕ) (e : ℕ) : Type 0 where
 
 pub record Slotable (ins from count start : List ℕ) (size lo hi : ℕ) : Type 0 where
   pub up : lo ≤ hi
-  pub in-slots : hi ≤ size
-  pub in-ins : hi ≤ length ins
+  pub in_slots : hi ≤ size
+  pub in_ins : hi ≤ length ins
   pub edges : (k : ℕ) → lo ≤ k → k < hi → EdgeRows from count start (at ins k)
 
 abbrev pub SlotableOf : List ℕ → ℕ → List ℕ → List ℕ → List ℕ → List ℕ → List ℕ → ℕ → Type 0

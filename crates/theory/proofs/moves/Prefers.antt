@@ -1,7 +1,7 @@
 -- The order of preference. These laws are all that is used of it outside the search, so another order needs them and no more.
---   prefers-one         of two different numbers one is preferred
---   prefers-well        of the numbers below n with a property there is one to which none of them is preferred, or none has it
---   prefers?, prefers-test     a test, which the cards compute
+--   prefers_one         of two different numbers one is preferred
+--   prefers_well        of the numbers below n with a property there is one to which none of them is preferred, or none has it
+--   prefers?, prefers_test     a test, which the cards compute
 use Prim.Native.Nat.{ℕ, ◌<◌}
 use native.Mathlib.Omega.{arith}
 use native.Mathlib.Decide.{dec_lt}
@@ -12,22 +12,22 @@ use lib.Dec.{T, ltb, lt→ltb}
 use Rattle.theory.specs.Move.{Prefers}
 use Rattle.theory.proofs.numbers.Find.{first}
 
-pub prefers-one : (c d : ℕ) → ¬ (c ≡ d) → Prefers c d ⊎ Prefers d c
+pub prefers_one : (c d : ℕ) → ¬ (c ≡ d) → Prefers c d ⊎ Prefers d c
 unfolding Prefers
-prefers-one c d n = go (dec_lt c d)
+prefers_one c d n = go (dec_lt c d)
   where
     go : Dec (c < d) → (c < d) ⊎ (d < c)
     go (yes h) = inl h
     go (no h) = inr (omega arith)
 
-pub prefers-well : {A : ℕ → Type 0} (n : ℕ) → ((c : ℕ) → c < n → Dec (A c))
+pub prefers_well : {A : ℕ → Type 0} (n : ℕ) → ((c : ℕ) → c < n → Dec (A c))
     → ((c : ℕ) × (c < n) × A c × ((d : ℕ) → d < n → Prefers d c → ¬ (A d))) ⊎ ((c : ℕ) → c < n → ¬ (A c))
 unfolding Prefers
-prefers-well n has = ⊎_elim (λ t. inl (t.0, t.1, t.2, λ d h p. t.3 d p)) inr (first n has)
+prefers_well n has = ⊎_elim (λ t. inl (t.0, t.1, t.2, λ d h p. t.3 d p)) inr (first n has)
 
 abbrev pub prefers? : ℕ → ℕ → Bool
 prefers? d c = ltb d c
 
-pub prefers-test : (d c : ℕ) → Prefers d c → T (prefers? d c)
+pub prefers_test : (d c : ℕ) → Prefers d c → T (prefers? d c)
 unfolding Prefers
-prefers-test d c p = lt→ltb d c p
+prefers_test d c p = lt→ltb d c p

@@ -1,7 +1,7 @@
 -- A bit put on top of a word: over the place, whatever it is. Bit k of a word is word / 2 ^ k % 2.
 --   bit_below           it leaves the bits below it
---   bit-top             it is the bit there
---   bit-fits            and the word has no bit above it
+--   bit_top             it is the bit there
+--   bit_fits            and the word has no bit above it
 use Prim.Native.Nat.{ℕ, suc, ◌+◌, ◌*◌, ◌^◌, ◌/◌, ◌%◌, ◌<◌, ◌≤◌}
 use native.Mathlib.Omega.{arith}
 use native.Mathlib.Nat.{pow-suc, mul_assoc, add_comm, add-mul-div_right, add-mul-mod_self_right, mod-eq_of_lt}
@@ -18,8 +18,8 @@ bit_below word x d k =
     ∙ add-mul-mod_self_right (word / 2 ^ k) (x * 2 ^ d) 2
 
 module _ (word x k : ℕ) (h : word < 2 ^ k) (l : x ≤ 1) where
-  pub bit-top : (word + x * 2 ^ k) / 2 ^ k % 2 ≡ x
-  bit-top = ap (λ y. y / 2 ^ k % 2) (add_comm word (x * 2 ^ k)) ∙ ap (λ y. y % 2) (high x k h) ∙ mod-eq_of_lt (omega arith)
+  pub bit_top : (word + x * 2 ^ k) / 2 ^ k % 2 ≡ x
+  bit_top = ap (λ y. y / 2 ^ k % 2) (add_comm word (x * 2 ^ k)) ∙ ap (λ y. y % 2) (high x k h) ∙ mod-eq_of_lt (omega arith)
 
-  pub bit-fits : word + x * 2 ^ k < 2 ^ suc k
-  bit-fits = let d : x * 2 ^ k + word < 2 * 2 ^ k = digits_lt (omega arith) h in omega (arith, pow-suc 2 k)
+  pub bit_fits : word + x * 2 ^ k < 2 ^ suc k
+  bit_fits = let d : x * 2 ^ k + word < 2 * 2 ^ k = digits_lt (omega arith) h in omega (arith, pow-suc 2 k)

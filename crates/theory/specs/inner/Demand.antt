@@ -16,7 +16,7 @@ pub record Solution (gate : ℕ → List ℕ → ℕ) (G : Graph) (R : Regs) (de
 
 -- The retimer's five ends. "Each is given when its fact holds and no earlier one does": 8, 9, 10, 11.
 pub data Verdict (gate : ℕ → List ℕ → ℕ) (G : Graph) (R : Regs) (delay : ℕ → ℕ) (period : ℕ) : Type 0 where
-  no-retiming : NoRetiming G R.count delay period → Verdict gate G R delay period
+  no_retiming : NoRetiming G R.count delay period → Verdict gate G R delay period
   too_wide : (r : ℕ → ℤ) → Least G R.count delay period r → (e : ℕ) → TooWide G R.count r e → Verdict gate G R delay period
   too_many : (r : ℕ → ℤ) → Least G R.count delay period r → Narrow G R.count r → TooMany G R.count r → Verdict gate G R delay period
   no_start : (r : ℕ → ℤ) → Least G R.count delay period r → Narrow G R.count r → ¬ TooMany G R.count r → NoStart gate G R r
@@ -42,7 +42,7 @@ pub record Demand (gate : ℕ → List ℕ → ℕ) (G : Graph) (R : Regs) (dela
   -- "For every list of input vectors …, running the original and running the retimed netlist, each by document 01's clocks from its own start values,
   -- give … the same outputs at every clock." Both run on all inputs, and whatever their traces are, they agree at the pins.
   pub runs : (ins : ℕ → ℕ → ℕ) → (x : ℕ → ℕ → ℕ) × Trace gate G R ins x
-  pub retimed-runs : (r : ℕ → ℤ) (c : ℕ) → Solution gate G R delay period r c
+  pub retimed_runs : (r : ℕ → ℤ) (c : ℕ) → Solution gate G R delay period r c
       → (ins : ℕ → ℕ → ℕ) → (y : ℕ → ℕ → ℕ) × Trace gate G (retimed gate G R r c) ins y
   pub same : (r : ℕ → ℤ) (c : ℕ) → Solution gate G R delay period r c
       → (ins x y : ℕ → ℕ → ℕ) → Trace gate G R ins x → Trace gate G (retimed gate G R r c) ins y

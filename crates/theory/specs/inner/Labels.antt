@@ -29,7 +29,7 @@ pub record LegalLabels (G : Graph) (count : ℕ → ℕ) (B : ℕ) (lab : ℕ �
 
 -- Every chain's delays add up to the period at most.
 pub record MeetsLabels (G : Graph) (count delay : ℕ → ℕ) (P : ℕ) (lab : ℕ → ℕ) : Type 0 where
-  pub in-time : (u v : ℕ) (p : Walk G u v) → Chain count lab p → delays delay p ≤ P
+  pub in_time : (u v : ℕ) (p : Walk G u v) → Chain count lab p → delays delay p ≤ P
 
 -- A node at which some chain ends that is longer than the period.
 pub record Late (G : Graph) (count delay : ℕ → ℕ) (P : ℕ) (lab : ℕ → ℕ) (v : ℕ) : Type 0 where

@@ -8,7 +8,7 @@ use Rattle.choose.proofs.choosing.wire.Goals as goal
 -- The edges by the node that they enter.
 entering : (net : Netlist) {old ins begin : List ℕ} → net.edges ≤ 1024 → length old ≡ 1024 → length ins ≡ 1024 → length begin ≡ 513 → Sorts net.to net.edges net.nodes old ins begin
     → Entering net ins begin
-entering net few olds rows begins s = record { old = _; room = omega arith; sorts = s; ins-rows = omega arith; begin-rows = begins }
+entering net few olds rows begins s = record { old = _; room = omega arith; sorts = s; ins_rows = omega arith; begin_rows = begins }
 
 pub operands_of-requires-clause-cells_in_bounds_2 : goal.operands_of-requires-clause-cells_in_bounds_2
 operands_of-requires-clause-cells_in_bounds_2 c =

@@ -4,15 +4,15 @@ use lib.ListN.{length-map}
 use Rattle.graph.specs.Columns.{at, bit}
 use Rattle.gates.specs.inner.Gates.{part, picked}
 use Rattle.gates.proofs.Words.{part_length}
-use Rattle.gates.proofs.Reckons.{picked-few}
-use Rattle.gates.proofs.Row.{seen-bits}
+use Rattle.gates.proofs.Reckons.{picked_few}
+use Rattle.gates.proofs.Row.{seen_bits}
 use Rattle.gates.proofs.values.value.Goals as goal
 
 -- The table says which bit the word asks for; there are nine.
 pub overflow_shr-result : goal.overflow_shr-result
 overflow_shr-result c =
     let w = c.gather-word.result in
-    omega (arith, c.requires.0.picks w (omega (arith, c.requires.1.narrow, c.gather-word.ensures.1)), picked-few w)
+    omega (arith, c.requires.0.picks w (omega (arith, c.requires.1.narrow, c.gather-word.ensures.1)), picked_few w)
 
 pub returns : goal.returns
 returns c =
@@ -24,5 +24,5 @@ returns c =
       λ kind right.
           ap (bit a.truth) (looked ∙ ap picked c.gather-word.ensures.0)
           ∙ right.gives (map (at a.sig.now) l) (length-map l (at a.sig.now) ∙ part_length a.list.now a.start a.end c.requires.1.in_list)
-          (seen-bits a.truth a.list.now a.start a.end a.sig.now c.requires.1),
+          (seen_bits a.truth a.list.now a.start a.end a.sig.now c.requires.1),
     )

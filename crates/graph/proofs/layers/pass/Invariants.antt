@@ -1,4 +1,4 @@
--- `graph::layers::pass` meets its contract: the marks have spread from the nodes at the places passed (`pass-leaves`).
+-- `graph::layers::pass` meets its contract: the marks have spread from the nodes at the places passed (`pass_leaves`).
 -- The measure is that of any walk along the queue; only the invariant says that the pass stops at the nodes which were marked before it.
 use Rattle.std.proofs.Common.{◌-◌}
 use Rattle.graph.proofs.Spread.{Spreading, Fed}

@@ -1,6 +1,6 @@
--- `graph::order::evaluation_order` meets its contract: `found-ordered`.
-use Rattle.graph.proofs.Evaluation.{found-ordered}
+-- `graph::order::evaluation_order` meets its contract: `found_ordered`.
+use Rattle.graph.proofs.Evaluation.{found_ordered}
 use Rattle.graph.proofs.order.evaluation_order.Goals as goal
 
 pub returns : goal.returns
-returns c = found-ordered c.order_of-found.ensures c.requires.by_index
+returns c = found_ordered c.order_of-found.ensures c.requires.by_index

@@ -1,6 +1,6 @@
--- `graph::order::looped` meets its contract: `found-told`.
-use Rattle.graph.proofs.Evaluation.{found-told}
+-- `graph::order::looped` meets its contract: `found_told`.
+use Rattle.graph.proofs.Evaluation.{found_told}
 use Rattle.graph.proofs.order.looped.Goals as goal
 
 pub returns : goal.returns
-returns c = found-told c.order_of-found.ensures
+returns c = found_told c.order_of-found.ensures

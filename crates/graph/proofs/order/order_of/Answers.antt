@@ -3,7 +3,7 @@ use Rattle.std.proofs.Common.{◌≡◌, ℕ, List, length, replicate, arith}
 use Rattle.graph.specs.inner.Laid.{Laid}
 use Rattle.graph.specs.inner.Sort.{Sorts}
 use Rattle.graph.specs.inner.Order.{Wires}
-use Rattle.graph.proofs.ByNode.{sorts-edges}
+use Rattle.graph.proofs.ByNode.{sorts_edges}
 use Rattle.graph.proofs.order.order_of.Goals as goal
 
 wires : {nodes edges : ℕ} {from to ins first outs leave : List ℕ} → Laid nodes edges from to
@@ -12,8 +12,8 @@ wires : {nodes edges : ℕ} {from to ins first outs leave : List ℕ} → Laid n
     → Wires nodes edges from to ins first outs leave
 wires f s i j t o l = record {
   laid = f;
-  entering = sorts-edges _ _ _ f.to_in f.edges_fit s i (omega (arith, f.nodes-fit));
-  leaving = sorts-edges _ _ _ f.from_in f.edges_fit t o (omega (arith, f.nodes-fit));
+  entering = sorts_edges _ _ _ f.to_in f.edges_fit s i (omega (arith, f.nodes_fit));
+  leaving = sorts_edges _ _ _ f.from_in f.edges_fit t o (omega (arith, f.nodes_fit));
 }
 
 pub order_along-requires-clause-by_index : goal.order_along-requires-clause-by_index

@@ -4,4 +4,4 @@ use Rattle.graph.proofs.Answers.{same_at}
 use Rattle.graph.proofs.reach.fan_ins.Goals as goal
 
 pub count_keys-requires : goal.count_keys-requires
-count_keys-requires c = let f = c.requires in (f.to-rows, omega (arith, f.edges_fit), f.nodes-fit, same_at 512 0 f.nodes-fit)
+count_keys-requires c = let f = c.requires in (f.to_rows, omega (arith, f.edges_fit), f.nodes_fit, same_at 512 0 f.nodes_fit)

@@ -1,8 +1,8 @@
 -- `lags::order::order_under` meets its contract: an evaluation order, where an edge counts as one without a register where it is empty under the labels.
 use Rattle.std.proofs.Common.{◌≡◌, length, arith, rules}
-use Rattle.netlist.proofs.Run.{fit-rows}
+use Rattle.netlist.proofs.Run.{fit_rows}
 use Rattle.netlist.proofs.Lowest.{laid}
-use Rattle.lags.proofs.Orders.{held-loop, held-ordered}
+use Rattle.lags.proofs.Orders.{held_loop, held_ordered}
 use Rattle.lags.proofs.order.order_under.Goals as goal
 
 pub evaluation_order-requires-clause-laid : goal.evaluation_order-requires-clause-laid
@@ -14,11 +14,11 @@ evaluation_order-requires-clause-laid c =
 pub evaluation_order-requires-clause-by_index : goal.evaluation_order-requires-clause-by_index
 evaluation_order-requires-clause-by_index c =
     let r = c.registers_under-held in
-    held-loop c.args.net c.args.lab.now r.result r.ensures c.requires.0.no_loop
+    held_loop c.args.net c.args.lab.now r.result r.ensures c.requires.0.no_loop
 
 pub returns : goal.returns
 returns c =
     let net = c.args.net in
     let r = c.registers_under-held in
     let n : length c.evaluation_order.result ≡ 512 = search rules in
-    held-ordered net c.args.lab.now r.result r.ensures c.evaluation_order.result (omega (arith, (fit-rows net c.requires.0.fit).0)) c.evaluation_order.ensures
+    held_ordered net c.args.lab.now r.result r.ensures c.evaluation_order.result (omega (arith, (fit_rows net c.requires.0.fit).0)) c.evaluation_order.ensures

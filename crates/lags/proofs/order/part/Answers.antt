@@ -3,7 +3,7 @@ use Rattle.std.proofs.Common.{◌≡◌, ℕ, ◌-◌, List, length, ap, ◌∙�
 use Rattle.std.proofs.Math.ListN.{length-set}
 use Rattle.graph.specs.Columns.{at}
 use Rattle.lags.specs.inner.Rounds.{Parts}
-use Rattle.lags.proofs.Orders.{parts-late, parts-rest}
+use Rattle.lags.proofs.Orders.{parts_late, parts_rest}
 use Rattle.lags.proofs.order.part.Goals as goal
 use Rattle.lags.proofs.order.part.Goals.{then-period-time, else-period-time}
 
@@ -25,13 +25,13 @@ loop-i-preserved c =
         ap length w.late-is ∙ length-set l.late l.n v ∙ l.invariant.1,
         ap length w.rest-is ∙ l.invariant.2,
         same w.late-is w.rest-is w.n-is (omega (arith, w.n-is, p.all))
-            (parts-late order time a.period l.i l.late l.rest l.n (l.i - l.n) p w.if-period-time.true (omega (arith, p.all))),
+            (parts_late order time a.period l.i l.late l.rest l.n (l.i - l.n) p w.if-period-time.true (omega (arith, p.all))),
       )
       | else-period-time w ↦ (
         omega arith,
         ap length w.late-is ∙ l.invariant.1,
         ap length w.rest-is ∙ length-set l.rest (l.i - l.n) v ∙ l.invariant.2,
         same w.late-is w.rest-is w.n-is (omega (arith, w.n-is, p.all))
-            (parts-rest order time a.period l.i l.late l.rest l.n (l.i - l.n) p w.if-period-time.false (omega (arith, p.all))),
+            (parts_rest order time a.period l.i l.late l.rest l.n (l.i - l.n) p w.if-period-time.false (omega (arith, p.all))),
       )
     ]

@@ -1,4 +1,4 @@
--- `lags::order::registers_under` meets its contract: the numbers below e are filled, by `fill-with`.
+-- `lags::order::registers_under` meets its contract: the numbers below e are filled, by `fill_with`.
 use Rattle.std.proofs.Common.{ℕ, ◌-◌, ◌≤◌, ◌<◌, ◌≡◌, length}
 use Rattle.graph.specs.Columns.{at}
 use Rattle.lags.specs.inner.Rounds.{HeldAt}

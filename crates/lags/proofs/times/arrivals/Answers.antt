@@ -1,8 +1,8 @@
 -- `lags::times::arrivals` meets its contract. The loop's invariant is the `Timing` of Arrivals.
 use Rattle.std.proofs.Common.{arith, rules}
 use Rattle.graph.specs.Columns.{at}
-use Rattle.netlist.proofs.Run.{fit-rows}
-use Rattle.lags.proofs.Arrivals.{basis-readable, time-low, time-next, time-end}
+use Rattle.netlist.proofs.Run.{fit_rows}
+use Rattle.lags.proofs.Arrivals.{basis_readable, time_low, time_next, time_end}
 use Rattle.lags.proofs.times.arrivals.Goals as goal
 
 pub latest-best-requires : goal.latest-best-requires
@@ -12,24 +12,24 @@ latest-best-requires c =
     let l = c.loop-i in
     let v = at c.args.order.now l.i in
     let h = low.2.listed.node l.i c.loop-i-test.true in
-    basis-readable b c.args.lab.now l.time low.1 (omega (arith, (fit-rows c.args.net b.sure.fit).0, l.invariant.size)) (search rules) (search rules) v h (low.0 v h)
+    basis_readable b c.args.lab.now l.time low.1 (omega (arith, (fit_rows c.args.net b.sure.fit).0, l.invariant.size)) (search rules) (search rules) v h (low.0 v h)
 
 pub later-requires : goal.later-requires
 later-requires c =
     let b = c.requires.basis in
     let o = c.requires.low.2 in
     let l = c.loop-i in (
-      time-low b o l.invariant c.loop-i-test.true c.latest-best.result c.latest-best.ensures,
+      time_low b o l.invariant c.loop-i-test.true c.latest-best.result c.latest-best.ensures,
       b.delayed.small (at c.args.order.now l.i) (o.listed.node l.i c.loop-i-test.true),
-      b.period-small,
+      b.period_small,
     )
 
 pub bounds-time-v : goal.bounds-time-v
-bounds-time-v c = omega (arith, c.requires.low.2.listed.node c.loop-i.i c.loop-i-test.true, (fit-rows c.args.net c.requires.basis.sure.fit).0)
+bounds-time-v c = omega (arith, c.requires.low.2.listed.node c.loop-i.i c.loop-i-test.true, (fit_rows c.args.net c.requires.basis.sure.fit).0)
 
 pub loop-i-preserved : goal.loop-i-preserved
 loop-i-preserved c =
-    time-next c.requires.basis c.requires.low.2 c.loop-i.invariant c.loop-i-test.true c.latest-best.result c.latest-best.ensures c.later.result c.later.ensures
+    time_next c.requires.basis c.requires.low.2 c.loop-i.invariant c.loop-i-test.true c.latest-best.result c.latest-best.ensures c.later.result c.later.ensures
 
 pub returns : goal.returns
-returns c = time-end c.requires.basis c.requires.low.2 c.loop-i.invariant c.loop-i-test.false
+returns c = time_end c.requires.basis c.requires.low.2 c.loop-i.invariant c.loop-i-test.false

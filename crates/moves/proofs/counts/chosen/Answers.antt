@@ -3,43 +3,43 @@ use Rattle.std.proofs.Common.{◌≡◌, ℕ, ◌+◌, ◌≤◌, ◌<◌, min, 
 use lib.ListN.{length-set}
 use Rattle.theory.specs.Lag.{up}
 use Rattle.theory.specs.Move.{sum}
-use Rattle.theory.proofs.numbers.Sums.{sum-none, sum_more}
+use Rattle.theory.proofs.numbers.Sums.{sum_none, sum_more}
 use Rattle.graph.specs.Columns.{at}
 use Rattle.graph.proofs.Fills.{fill_more}
 use Rattle.netlist.specs.declared.Netlist.{Netlist}
-use Rattle.lags.specs.inner.Lags.{lagOf}
-use Rattle.lags.proofs.Laws.{lag-up}
-use Rattle.moves.specs.inner.Labels.{Labelled, chosenAt}
-use Rattle.moves.proofs.Labels.{to-node, low-edge, base-none, chosen_is}
+use Rattle.lags.specs.inner.Lags.{lag_of}
+use Rattle.lags.proofs.Laws.{lag_up}
+use Rattle.moves.specs.inner.Labels.{Labelled, chosen_at}
+use Rattle.moves.proofs.Labels.{to_node, low_edge, base_none, chosen_is}
 use Rattle.moves.proofs.counts.chosen.Goals as goal
 
 -- No edge adds more than the highest lag.
 few : (net : Netlist) (lab : List ℕ) → Labelled net lab → (e : ℕ) → e < net.edges → (count lag x : ℕ)
-    → lag ≡ up (lagOf (at lab (at net.to e))) → x ≡ min count lag → x ≤ 16384
+    → lag ≡ up (lag_of (at lab (at net.to e))) → x ≡ min count lag → x ≤ 16384
 few net lab s e h count lag x p q =
     let v = at net.to e in
-    omega (arith, p, q, lag-up (at lab v), s.small v (to-node net lab s e h))
+    omega (arith, p, q, lag_up (at lab v), s.small v (to_node net lab s e h))
 
 pub loop-e-init : goal.loop-e-init
 loop-e-init c =
-    let f : ℕ → ℕ = chosenAt c.args.net c.args.lab.now in
-    (omega arith, refl, omega arith, sum-none f, base-none f (replicate 1025 0) refl)
+    let f : ℕ → ℕ = chosen_at c.args.net c.args.lab.now in
+    (omega arith, refl, omega arith, sum_none f, base_none f (replicate 1025 0) refl)
 
 pub bounds-net-e : goal.bounds-net-e
-bounds-net-e c = low-edge c.args.net c.args.lab.now c.requires.0 c.loop-e.e c.loop-e-test.true
+bounds-net-e c = low_edge c.args.net c.args.lab.now c.requires.0 c.loop-e.e c.loop-e-test.true
 
 pub bounds-lab-v : goal.bounds-lab-v
-bounds-lab-v c = omega (arith, to-node c.args.net c.args.lab.now c.requires.0 c.loop-e.e c.loop-e-test.true, c.requires.0.rows)
+bounds-lab-v c = omega (arith, to_node c.args.net c.args.lab.now c.requires.0 c.loop-e.e c.loop-e-test.true, c.requires.0.rows)
 
 pub overflow_add-total : goal.overflow_add-total
 overflow_add-total c =
     let a = c.args in
     let e = c.loop-e.e in
     let h = c.loop-e-test.true in
-    omega (arith, few a.net a.lab.now c.requires.0 e h (at a.counts.now e) c.up_of.result c.chosen_on-total.result c.up_of.ensures c.chosen_on-total.ensures, low-edge a.net a.lab.now c.requires.0 e h)
+    omega (arith, few a.net a.lab.now c.requires.0 e h (at a.counts.now e) c.up_of.result c.chosen_on-total.result c.up_of.ensures c.chosen_on-total.ensures, low_edge a.net a.lab.now c.requires.0 e h)
 
 pub bounds-base-e : goal.bounds-base-e
-bounds-base-e c = omega (arith, low-edge c.args.net c.args.lab.now c.requires.0 c.loop-e.e c.loop-e-test.true)
+bounds-base-e c = omega (arith, low_edge c.args.net c.args.lab.now c.requires.0 c.loop-e.e c.loop-e-test.true)
 
 pub loop-e-preserved : goal.loop-e-preserved
 loop-e-preserved c =
@@ -47,12 +47,12 @@ loop-e-preserved c =
     let l = c.loop-e in
     let h = c.loop-e-test.true in
     let x = c.chosen_on-total.result in
-    let f : ℕ → ℕ = chosenAt a.net a.lab.now in
+    let f : ℕ → ℕ = chosen_at a.net a.lab.now in
     let q : l.total + x ≡ sum f (l.e + 1) =
     ap₂ ◌+◌ l.invariant.3 (chosen_is a.net a.lab.now a.counts.now c.requires.1 l.e h x c.up_of.result c.up_of.ensures c.chosen_on-total.ensures) ∙ sym (sum_more f l.e) in (
       omega arith,
       length-set l.base (l.e + 1) (l.total + x) ∙ l.invariant.1,
       omega (arith, few a.net a.lab.now c.requires.0 l.e h (at a.counts.now l.e) c.up_of.result x c.up_of.ensures c.chosen_on-total.ensures),
       q,
-      fill_more (λ k. sum f k) l.base (l.e + 1) (l.total + x) (omega (arith, low-edge a.net a.lab.now c.requires.0 l.e h, l.invariant.1)) q l.invariant.4,
+      fill_more (λ k. sum f k) l.base (l.e + 1) (l.total + x) (omega (arith, low_edge a.net a.lab.now c.requires.0 l.e h, l.invariant.1)) q l.invariant.4,
     )

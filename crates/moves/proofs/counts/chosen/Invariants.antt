@@ -2,7 +2,7 @@
 use Rattle.std.proofs.Common.{◌≡◌, ℕ, ◌+◌, ◌*◌, ◌-◌, ◌≤◌, ◌<◌, length}
 use Rattle.theory.specs.Move.{sum}
 use Rattle.graph.specs.Columns.{at}
-use Rattle.moves.specs.inner.Labels.{chosenAt}
+use Rattle.moves.specs.inner.Labels.{chosen_at}
 use Rattle.moves.proofs.counts.chosen.Given as goal
 
 abbrev pub invariant-loop-e : goal.invariant-loop-e
@@ -10,8 +10,8 @@ invariant-loop-e l =
     (l.e ≤ l.edges)
     × (length l.base ≡ 1025)
     × (l.total ≤ 16384 * l.e)
-    × (l.total ≡ sum (chosenAt l.net l.lab) l.e)
-    × ((k : ℕ) → k < l.e + 1 → at l.base k ≡ sum (chosenAt l.net l.lab) k)
+    × (l.total ≡ sum (chosen_at l.net l.lab) l.e)
+    × ((k : ℕ) → k < l.e + 1 → at l.base k ≡ sum (chosen_at l.net l.lab) k)
 
 abbrev pub decreases-loop-e : goal.decreases-loop-e
 decreases-loop-e l = l.edges - l.e

@@ -1,8 +1,8 @@
 use Rattle.std.proofs.Common.{◌≡◌, ◌+◌, arith, rules, ap, ap₂, ◌∙◌, length}
 use Rattle.std.proofs.lemmas.List.Edits.{sets}
 use Rattle.frame.specs.Frame.{line_of, placed}
-use Rattle.netlist.specs.Write.{edgeLine, joined}
-use Rattle.netlist.proofs.Written.{joined-more, joined-part, edge-length, put-more}
+use Rattle.netlist.specs.Write.{edge_line, joined}
+use Rattle.netlist.proofs.Written.{joined_more, joined_part, edge_length, put_more}
 use Rattle.netlist.proofs.writing.put_edges.Goals as goal
 
 pub loop-e-init : goal.loop-e-init
@@ -12,20 +12,20 @@ loop-e-init c = search rules
 -- There is room for the line.
 pub overflow_add-at : goal.overflow_add-at
 overflow_add-at c =
-    let f = edgeLine c.args.net in
+    let f = edge_line c.args.net in
     let i = c.loop-e.e in
-    omega (arith, joined-part f c.args.net.edges i (omega arith), joined-more f i, edge-length c.args.net i, c.well_formed)
+    omega (arith, joined_part f c.args.net.edges i (omega arith), joined_more f i, edge_length c.args.net i, c.well_formed)
 
 pub loop-e-preserved : goal.loop-e-preserved
 loop-e-preserved c =
     let here = c.loop-e in
     let a = c.args in (
       omega arith,
-      omega (arith, joined-more (edgeLine a.net) here.e, edge-length a.net here.e),
+      omega (arith, joined_more (edge_line a.net) here.e, edge_length a.net here.e),
       c.put_line.ensures
           ∙ ap (placed _ _) (ap line_of c.edge_bytes-b.ensures)
-          ∙ ap₂ (λ l at. placed l at (edgeLine a.net here.e)) here.invariant.2 here.invariant.1
-          ∙ put-more (edgeLine a.net) a.out.now a.at0 here.e (omega (arith, joined-part (edgeLine a.net) a.net.edges here.e (omega arith))),
+          ∙ ap₂ (λ l at. placed l at (edge_line a.net here.e)) here.invariant.2 here.invariant.1
+          ∙ put_more (edge_line a.net) a.out.now a.at0 here.e (omega (arith, joined_part (edge_line a.net) a.net.edges here.e (omega arith))),
     )
 
 pub returns : goal.returns
@@ -33,6 +33,6 @@ returns c =
     let here = c.loop-e in
     let net = c.args.net in
     let e : here.e ≡ net.edges = omega arith in (
-      here.invariant.2 ∙ ap (λ n. sets c.args.out.now c.args.at0 (joined (edgeLine net) n)) e,
-      here.invariant.1 ∙ ap (λ n. c.args.at0 + length (joined (edgeLine net) n)) e,
+      here.invariant.2 ∙ ap (λ n. sets c.args.out.now c.args.at0 (joined (edge_line net) n)) e,
+      here.invariant.1 ∙ ap (λ n. c.args.at0 + length (joined (edge_line net) n)) e,
     )

@@ -1,8 +1,8 @@
 use Rattle.std.proofs.Common.{◌≡◌, ◌+◌, arith, rules, ap, ap₂, ◌∙◌, length}
 use Rattle.std.proofs.lemmas.List.Edits.{sets}
 use Rattle.frame.specs.Frame.{line_of, placed}
-use Rattle.netlist.specs.Write.{nodeLine, joined}
-use Rattle.netlist.proofs.Written.{joined-more, joined-part, node-length, put-more}
+use Rattle.netlist.specs.Write.{node_line, joined}
+use Rattle.netlist.proofs.Written.{joined_more, joined_part, node_length, put_more}
 use Rattle.netlist.proofs.writing.put_nodes.Goals as goal
 
 pub loop-i-init : goal.loop-i-init
@@ -12,20 +12,20 @@ loop-i-init c = search rules
 -- There is room for the line.
 pub overflow_add-at : goal.overflow_add-at
 overflow_add-at c =
-    let f = nodeLine c.args.net in
+    let f = node_line c.args.net in
     let i = c.loop-i.i in
-    omega (arith, joined-part f c.args.net.nodes i (omega arith), joined-more f i, node-length c.args.net i, c.well_formed)
+    omega (arith, joined_part f c.args.net.nodes i (omega arith), joined_more f i, node_length c.args.net i, c.well_formed)
 
 pub loop-i-preserved : goal.loop-i-preserved
 loop-i-preserved c =
     let here = c.loop-i in
     let a = c.args in (
       omega arith,
-      omega (arith, joined-more (nodeLine a.net) here.i, node-length a.net here.i),
+      omega (arith, joined_more (node_line a.net) here.i, node_length a.net here.i),
       c.put_line.ensures
           ∙ ap (placed _ _) (ap line_of c.node_bytes.ensures)
-          ∙ ap₂ (λ l at. placed l at (nodeLine a.net here.i)) here.invariant.2 here.invariant.1
-          ∙ put-more (nodeLine a.net) a.out.now a.at0 here.i (omega (arith, joined-part (nodeLine a.net) a.net.nodes here.i (omega arith))),
+          ∙ ap₂ (λ l at. placed l at (node_line a.net here.i)) here.invariant.2 here.invariant.1
+          ∙ put_more (node_line a.net) a.out.now a.at0 here.i (omega (arith, joined_part (node_line a.net) a.net.nodes here.i (omega arith))),
     )
 
 pub returns : goal.returns
@@ -33,6 +33,6 @@ returns c =
     let here = c.loop-i in
     let net = c.args.net in
     let e : here.i ≡ net.nodes = omega arith in (
-      here.invariant.2 ∙ ap (λ n. sets c.args.out.now c.args.at0 (joined (nodeLine net) n)) e,
-      here.invariant.1 ∙ ap (λ n. c.args.at0 + length (joined (nodeLine net) n)) e,
+      here.invariant.2 ∙ ap (λ n. sets c.args.out.now c.args.at0 (joined (node_line net) n)) e,
+      here.invariant.1 ∙ ap (λ n. c.args.at0 + length (joined (node_line net) n)) e,
     )

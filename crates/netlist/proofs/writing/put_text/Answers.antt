@@ -2,54 +2,54 @@
 use Rattle.std.proofs.Common.{◌≤◌, arith, ap, ap₂, sym, ◌∙◌, length}
 use Rattle.std.proofs.lemmas.List.Edits.{sets}
 use Rattle.frame.specs.Frame.{line_of, placed}
-use Rattle.netlist.specs.Write.{nodeLine, edgeLine, joined, text_of}
-use Rattle.netlist.proofs.Fields.{lineSize}
-use Rattle.netlist.proofs.Written.{head-length, parts-length, text-parts, text_in, text-nodes, text-edges, text-room}
+use Rattle.netlist.specs.Write.{node_line, edge_line, joined, text_of}
+use Rattle.netlist.proofs.Fields.{line_size}
+use Rattle.netlist.proofs.Written.{head_length, parts_length, text_parts, text_in_room, text_nodes, text_edges, text_room}
 use Rattle.netlist.proofs.writing.put_text.Goals as goal
 
 pub returns-then-net-gt-MOST_NODES-clause-out_after : goal.returns-then-net-gt-MOST_NODES-clause-out_after
-returns-then-net-gt-MOST_NODES-clause-out_after c = sym (ap (sets c.args.out.now 0) (text-nodes c.args.net (length c.args.out.now) c.if-net-gt-MOST_NODES.true))
+returns-then-net-gt-MOST_NODES-clause-out_after c = sym (ap (sets c.args.out.now 0) (text_nodes c.args.net (length c.args.out.now) c.if-net-gt-MOST_NODES.true))
 
 pub returns-then-net-gt-MOST_NODES-clause-value : goal.returns-then-net-gt-MOST_NODES-clause-value
-returns-then-net-gt-MOST_NODES-clause-value c = sym (ap length (text-nodes c.args.net (length c.args.out.now) c.if-net-gt-MOST_NODES.true))
+returns-then-net-gt-MOST_NODES-clause-value c = sym (ap length (text_nodes c.args.net (length c.args.out.now) c.if-net-gt-MOST_NODES.true))
 
 pub returns-then-net-gt-MOST_EDGES-clause-out_after : goal.returns-then-net-gt-MOST_EDGES-clause-out_after
 returns-then-net-gt-MOST_EDGES-clause-out_after c =
-    sym (ap (sets c.args.out.now 0) (text-edges c.args.net (length c.args.out.now) c.if-net-gt-MOST_NODES.false c.if-net-gt-MOST_EDGES.true))
+    sym (ap (sets c.args.out.now 0) (text_edges c.args.net (length c.args.out.now) c.if-net-gt-MOST_NODES.false c.if-net-gt-MOST_EDGES.true))
 
 pub returns-then-net-gt-MOST_EDGES-clause-value : goal.returns-then-net-gt-MOST_EDGES-clause-value
 returns-then-net-gt-MOST_EDGES-clause-value c =
-    sym (ap length (text-edges c.args.net (length c.args.out.now) c.if-net-gt-MOST_NODES.false c.if-net-gt-MOST_EDGES.true))
+    sym (ap length (text_edges c.args.net (length c.args.out.now) c.if-net-gt-MOST_NODES.false c.if-net-gt-MOST_EDGES.true))
 
 pub returns-then-out-text_len-clause-out_after : goal.returns-then-out-text_len-clause-out_after
 returns-then-out-text_len-clause-out_after c =
     sym (ap (sets c.args.out.now 0)
-    (text-room c.args.net (length c.args.out.now) c.if-net-gt-MOST_NODES.false c.if-net-gt-MOST_EDGES.false (omega (arith, c.text_len.ensures))))
+    (text_room c.args.net (length c.args.out.now) c.if-net-gt-MOST_NODES.false c.if-net-gt-MOST_EDGES.false (omega (arith, c.text_len.ensures))))
 
 pub returns-then-out-text_len-clause-value : goal.returns-then-out-text_len-clause-value
 returns-then-out-text_len-clause-value c =
-    sym (ap length (text-room c.args.net (length c.args.out.now) c.if-net-gt-MOST_NODES.false c.if-net-gt-MOST_EDGES.false (omega (arith, c.text_len.ensures))))
+    sym (ap length (text_room c.args.net (length c.args.out.now) c.if-net-gt-MOST_NODES.false c.if-net-gt-MOST_EDGES.false (omega (arith, c.text_len.ensures))))
 
 -- Past the three tests there is room, and the text is put.
 pub put_nodes-at-requires : goal.put_nodes-at-requires
 put_nodes-at-requires c =
-    (c.if-net-gt-MOST_NODES.false, omega (arith, parts-length c.args.net, head-length c.args.net, c.text_len.ensures, c.put_line.auto))
+    (c.if-net-gt-MOST_NODES.false, omega (arith, parts_length c.args.net, head_length c.args.net, c.text_len.ensures, c.put_line.auto))
 
 pub put_edges-requires : goal.put_edges-requires
 put_edges-requires c =
     let net = c.args.net in
-    (c.if-net-gt-MOST_EDGES.false, omega (arith, parts-length net, head-length net, c.text_len.ensures, c.put_line.auto, c.put_nodes-at.auto, c.put_nodes-at.ensures.1))
+    (c.if-net-gt-MOST_EDGES.false, omega (arith, parts_length net, head_length net, c.text_len.ensures, c.put_line.auto, c.put_nodes-at.auto, c.put_nodes-at.ensures.1))
 
 pub returns-clause-out_after : goal.returns-clause-out_after
 returns-clause-out_after c =
     let a = c.args in
-    let n = joined (nodeLine a.net) a.net.nodes in
-    let m = joined (edgeLine a.net) a.net.edges in
+    let n = joined (node_line a.net) a.net.nodes in
+    let m = joined (edge_line a.net) a.net.edges in
     let room : length (text_of a.net) ≤ length a.out.now = omega (arith, c.text_len.ensures) in
     let one = c.put_line.ensures ∙ ap (λ bs. placed a.out.now 0 (line_of bs)) c.head_bytes-b.ensures in
-    let two = c.put_nodes-at.ensures.0 ∙ ap (λ l. sets l (lineSize 7) n) one in
-    c.put_edges.ensures.0 ∙ ap₂ (λ l at. sets l at m) two c.put_nodes-at.ensures.1 ∙ text-parts a.net a.out.now room
-    ∙ sym (ap (sets a.out.now 0) (text_in a.net (length a.out.now) c.if-net-gt-MOST_NODES.false c.if-net-gt-MOST_EDGES.false room))
+    let two = c.put_nodes-at.ensures.0 ∙ ap (λ l. sets l (line_size 7) n) one in
+    c.put_edges.ensures.0 ∙ ap₂ (λ l at. sets l at m) two c.put_nodes-at.ensures.1 ∙ text_parts a.net a.out.now room
+    ∙ sym (ap (sets a.out.now 0) (text_in_room a.net (length a.out.now) c.if-net-gt-MOST_NODES.false c.if-net-gt-MOST_EDGES.false room))
 
 pub returns-clause-value : goal.returns-clause-value
 returns-clause-value c =
@@ -59,7 +59,7 @@ returns-clause-value c =
       arith,
       c.put_edges.ensures.1,
       c.put_nodes-at.ensures.1,
-      parts-length net,
-      head-length net,
-      ap length (text_in net (length c.args.out.now) c.if-net-gt-MOST_NODES.false c.if-net-gt-MOST_EDGES.false room),
+      parts_length net,
+      head_length net,
+      ap length (text_in_room net (length c.args.out.now) c.if-net-gt-MOST_NODES.false c.if-net-gt-MOST_EDGES.false room),
     )

@@ -1,8 +1,8 @@
 -- `printing::running::put_digits` meets its contract.
 use Rattle.std.proofs.Common.{◌≡◌, ap, ap₂, ◌∙◌, arith, map, take, set}
 use Rattle.std.proofs.lemmas.List.Edits.{sets}
-use Rattle.printing.specs.Printed.{bitDigit}
-use Rattle.printing.proofs.Digits.{digits_more, digits-end}
+use Rattle.printing.specs.Printed.{bit_digit}
+use Rattle.printing.proofs.Digits.{digits_more, digits_end}
 use Rattle.printing.proofs.running.put_digits.Goals as goal
 
 pub loop-i-preserved : goal.loop-i-preserved
@@ -15,4 +15,4 @@ pub returns : goal.returns
 returns c =
     let a = c.args in
     let e : c.loop-i.i ≡ a.n = omega arith in
-    ap (λ l. set l a.n 10) (c.loop-i.invariant.1 ∙ ap (λ i. sets a.out.now 0 (map bitDigit (take i a.bits.now))) e) ∙ digits-end a.bits.now a.out.now a.n (omega arith)
+    ap (λ l. set l a.n 10) (c.loop-i.invariant.1 ∙ ap (λ i. sets a.out.now 0 (map bit_digit (take i a.bits.now))) e) ∙ digits_end a.bits.now a.out.now a.n (omega arith)

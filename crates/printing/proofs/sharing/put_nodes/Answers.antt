@@ -3,9 +3,9 @@ use Rattle.std.proofs.Common.{rules, ap, ap₂, sym, ◌∙◌, arith, ◌≡◌
 use Rattle.std.proofs.lemmas.List.Edits.{sets}
 use Rattle.frame.specs.Frame.{line_of, placed}
 use Rattle.netlist.specs.Write.{joined}
-use Rattle.netlist.proofs.Written.{length-joined, put-more}
-use Rattle.printing.specs.Shared.{railLine}
-use Rattle.printing.proofs.Shared.{rail-length}
+use Rattle.netlist.proofs.Written.{length_joined, put_more}
+use Rattle.printing.specs.Shared.{rail_line}
+use Rattle.printing.proofs.Shared.{rail_length}
 use Rattle.printing.proofs.sharing.put_nodes.Goals as goal
 
 pub loop-v-init : goal.loop-v-init
@@ -16,16 +16,16 @@ pub loop-v-preserved : goal.loop-v-preserved
 loop-v-preserved c =
     let here = c.loop-v in
     let a = c.args in
-    let f = railLine a.table.now in
-    let long = length-joined f 15 (rail-length a.table.now) in (
+    let f = rail_line a.table.now in
+    let long = length_joined f 15 (rail_length a.table.now) in (
       omega arith,
       c.put_line.ensures
           ∙ ap₂ (λ l bytes. placed l (11 + 15 * here.v) (line_of bytes)) here.invariant.1 c.rail_bytes-b.ensures
           ∙ ap (λ k. placed (sets a.out.now 11 (joined f here.v)) (11 + k) (f here.v)) (sym (long here.v))
-          ∙ put-more f a.out.now 11 here.v (omega (arith, long (here.v + 1))),
+          ∙ put_more f a.out.now 11 here.v (omega (arith, long (here.v + 1))),
     )
 
 pub returns : goal.returns
 returns c =
     let e : c.loop-v.v ≡ c.args.nodes = omega arith in
-    c.loop-v.invariant.1 ∙ ap (λ n. sets c.args.out.now 11 (joined (railLine c.args.table.now) n)) e
+    c.loop-v.invariant.1 ∙ ap (λ n. sets c.args.out.now 11 (joined (rail_line c.args.table.now) n)) e

@@ -2,11 +2,11 @@
 use Rattle.std.proofs.Common.{◌≡◌, ◌-◌, ◌≤◌}
 use Rattle.std.proofs.lemmas.List.Edits.{sets}
 use Rattle.netlist.specs.Write.{joined}
-use Rattle.printing.specs.Shared.{railLine}
+use Rattle.printing.specs.Shared.{rail_line}
 use Rattle.printing.proofs.sharing.put_nodes.Given as goal
 
 abbrev pub invariant-loop-v : goal.invariant-loop-v
-invariant-loop-v l = (l.v ≤ l.nodes) × (l.out ≡ sets l.initial.out 11 (joined (railLine l.table) l.v))
+invariant-loop-v l = (l.v ≤ l.nodes) × (l.out ≡ sets l.initial.out 11 (joined (rail_line l.table) l.v))
 
 abbrev pub decreases-loop-v : goal.decreases-loop-v
 decreases-loop-v l = l.nodes - l.v

@@ -1,11 +1,11 @@
 -- `quote::counts::total` meets its contract: the sum of the counts below e, each of which is below 65,536.
 use Rattle.std.proofs.Common.{◌+◌, arith, ap, sym, ◌∙◌}
-use Rattle.theory.proofs.numbers.Sums.{sum-none, sum_more}
+use Rattle.theory.proofs.numbers.Sums.{sum_none, sum_more}
 use Rattle.graph.specs.Columns.{at}
 use Rattle.quote.proofs.counts.total.Goals as goal
 
 pub loop-e-init : goal.loop-e-init
-loop-e-init c = (omega arith, omega arith, sum-none (at c.args.counts.now))
+loop-e-init c = (omega arith, omega arith, sum_none (at c.args.counts.now))
 
 pub loop-e-preserved : goal.loop-e-preserved
 loop-e-preserved c =

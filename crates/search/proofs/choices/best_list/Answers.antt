@@ -6,9 +6,9 @@ use Rattle.gates.specs.inner.Gates.{Table}
 use Rattle.search.specs.declared.Choice.{Choice}
 use Rattle.search.specs.declared.choices.Extent.{Extent}
 use Rattle.search.specs.inner.Program.{program_of}
-use Rattle.search.specs.inner.States.{evaluatorOf, Truthful, EvaluatedTo, Plan}
-use Rattle.search.proofs.Lists.{list-ready}
-use Rattle.search.proofs.States.{Searching, searching-on, searching-turn, searching-drop, searching-next, searching-found, searching-none}
+use Rattle.search.specs.inner.States.{evaluator_of, Truthful, EvaluatedTo, Plan}
+use Rattle.search.proofs.Lists.{list_ready}
+use Rattle.search.proofs.States.{Searching, searching_on, searching_turn, searching_drop, searching_next, searching_found, searching_none}
 use Rattle.search.proofs.choices.best_list.Goals as goal
 
 module _ {e : Extent} {kind first operand level row left : List ℕ} (g : Plan e (program_of kind first operand) level row left) where
@@ -19,8 +19,8 @@ module _ {e : Extent} {kind first operand level row left : List ℕ} (g : Plan e
   -- More cells are evaluated.
   state : {truth index fill : List ℕ} → Table index → e.cells ≤ length truth → Truthful e.cells kind first truth
       → {best : Choice} {c p d end q : ℕ} {sig after : List ℕ} → Searching e (program_of kind first operand) row fill best c p sig d → end ≤ e.cells
-      → EvaluatedTo (evaluatorOf truth index first operand) p end sig after q → Searching e (program_of kind first operand) row fill best c q after d
-  state t n w s l v = searching-on g s (v.carried _ _ _ _ (record { program = g.program; table = t; truth-rows = n; truths = w }) l s.valued)
+      → EvaluatedTo (evaluator_of truth index first operand) p end sig after q → Searching e (program_of kind first operand) row fill best c q after d
+  state t n w s l v = searching_on g s (v.carried _ _ _ _ (record { program = g.program; table = t; truth_rows = n; truths = w }) l s.valued)
 
 pub jump-t-requires-clause-choice_bound : goal.jump-t-requires-clause-choice_bound
 jump-t-requires-clause-choice_bound c =
@@ -28,7 +28,7 @@ jump-t-requires-clause-choice_bound c =
     let i = c.loop-d-2.invariant in
     let l = room g c.loop-d.d c.loop-d-2.d c.loop-d-test.true c.loop-d-2-test.true in
     let s = state g c.index_table-index.ensures (omega (arith, c.requires.planned.1.0)) c.put_truths.ensures i.1 (omega (arith, g.cell c.loop-d-2.d l)) c.evaluate-p.ensures in
-    (omega (arith, i.0, c.loop-d.invariant.0, g.limit), g.program.few_bits, omega (arith, (g.level-of _ (g.cell c.loop-d-2.d l)).few), s.valued.bits)
+    (omega (arith, i.0, c.loop-d.invariant.0, g.limit), g.program.few_bits, omega (arith, (g.level_of _ (g.cell c.loop-d-2.d l)).few), s.valued.bits)
 
 pub search-preserved-then-sig-i : goal.search-preserved-then-sig-i
 search-preserved-then-sig-i c =
@@ -36,7 +36,7 @@ search-preserved-then-sig-i c =
     let i = c.loop-d-2.invariant in
     let l = room g c.loop-d.d c.loop-d-2.d c.loop-d-test.true c.loop-d-2-test.true in
     let s = state g c.index_table-index.ensures (omega (arith, c.requires.planned.1.0)) c.put_truths.ensures i.1 (omega (arith, g.cell c.loop-d-2.d l)) c.evaluate-p.ensures in
-    searching-drop g s l (omega (arith, c.evaluate-p.ensures.reached)) c.if-sig-i.true (omega (arith, i.0, c.loop-d.invariant.0, g.limit)) c.jump-t.ensures c.jump-t.auto.sig
+    searching_drop g s l (omega (arith, c.evaluate-p.ensures.reached)) c.if-sig-i.true (omega (arith, i.0, c.loop-d.invariant.0, g.limit)) c.jump-t.ensures c.jump-t.auto.sig
 
 pub loop-d-2-preserved : goal.loop-d-2-preserved
 loop-d-2-preserved c =
@@ -44,20 +44,20 @@ loop-d-2-preserved c =
     let i = c.loop-d-2.invariant in
     let l = room g c.loop-d.d c.loop-d-2.d c.loop-d-test.true c.loop-d-2-test.true in
     let s = state g c.index_table-index.ensures (omega (arith, c.requires.planned.1.0)) c.put_truths.ensures i.1 (omega (arith, g.cell c.loop-d-2.d l)) c.evaluate-p.ensures in
-    (i.0, searching-turn g s l (omega (arith, c.evaluate-p.ensures.reached)) c.if-sig-i.false)
+    (i.0, searching_turn g s l (omega (arith, c.evaluate-p.ensures.reached)) c.if-sig-i.false)
 
 -- All register values agree.
 pub list_of-list-requires-clause-by_index : goal.list_of-list-requires-clause-by_index
 list_of-list-requires-clause-by_index c =
     let g = c.requires.planned.0 in
     let s = state g c.index_table-index.ensures (omega (arith, c.requires.planned.1.0)) c.put_truths.ensures c.loop-d.invariant.1 (omega arith) c.evaluate.ensures in
-    list-ready c.requires.fillable s.valued c.evaluate.ensures.reached
+    list_ready c.requires.fillable s.valued c.evaluate.ensures.reached
 
 pub returns-then-list-e : goal.returns-then-list-e
 returns-then-list-e c =
     let g = c.requires.planned.0 in
     let s = state g c.index_table-index.ensures (omega (arith, c.requires.planned.1.0)) c.put_truths.ensures c.loop-d.invariant.1 (omega arith) c.evaluate.ensures in
-    searching-found g s c.requires.fillable c.loop-d-test.false c.evaluate.ensures.reached c.list_of-list.ensures c.better-best.ensures (omega (arith, g.limit))
+    searching_found g s c.requires.fillable c.loop-d-test.false c.evaluate.ensures.reached c.list_of-list.ensures c.better-best.ensures (omega (arith, g.limit))
 
 pub jump-next-requires-clause-choice_bound : goal.jump-next-requires-clause-choice_bound
 jump-next-requires-clause-choice_bound c =
@@ -69,8 +69,8 @@ pub search-preserved : goal.search-preserved
 search-preserved c =
     let g = c.requires.planned.0 in
     let s = state g c.index_table-index.ensures (omega (arith, c.requires.planned.1.0)) c.put_truths.ensures c.loop-d.invariant.1 (omega arith) c.evaluate.ensures in
-    searching-next g s c.requires.fillable c.loop-d-test.false c.evaluate.ensures.reached c.list_of-list.ensures c.better-best.ensures
+    searching_next g s c.requires.fillable c.loop-d-test.false c.evaluate.ensures.reached c.list_of-list.ensures c.better-best.ensures
     (omega (arith, c.loop-d.invariant.0, g.limit)) c.jump-next.ensures c.jump-next.auto.sig
 
 pub returns : goal.returns
-returns c = let g = c.requires.planned.0 in searching-none g c.search.invariant (omega (arith, g.limit))
+returns c = let g = c.requires.planned.0 in searching_none g c.search.invariant (omega (arith, g.limit))

@@ -1,7 +1,7 @@
 -- `search::choices::evaluate` meets its contract: the cells below i are evaluated, under whatever choice those below `start` were.
 use Rattle.std.proofs.Common.{◌+◌, ◌<◌, arith, length-set, ◌∙◌}
 use Rattle.graph.specs.Columns.{at}
-use Rattle.search.proofs.States.{truth-next, valued-seen, valued-value, valued-more}
+use Rattle.search.proofs.States.{truth_next, valued_seen, valued_value, valued_more}
 use Rattle.search.proofs.choices.evaluate.Goals as goal
 
 -- The signals are those of the choice that was asked for.
@@ -9,7 +9,7 @@ pub value-requires : goal.value-requires
 value-requires c =
     let s = c.requires in
     let v = c.loop-i.invariant.1 s.cells s.k s.choice s.kind s.ready s.within s.valued in
-    (s.ready.table, valued-seen s.ready v (omega (arith, s.within, c.loop-i-test.true)))
+    (s.ready.table, valued_seen s.ready v (omega (arith, s.within, c.loop-i-test.true)))
 
 pub loop-i-preserved : goal.loop-i-preserved
 loop-i-preserved c =
@@ -18,6 +18,6 @@ loop-i-preserved c =
       λ cells k n kind r h v.
           let w = l.invariant.1 cells k n kind r h v in
           let q : l.i < cells = omega (arith, c.loop-i-test.true) in
-          valued-more r w q (valued-value r w q (c.value.ensures.1 (at kind l.i) (truth-next r q))),
+          valued_more r w q (valued_value r w q (c.value.ensures.1 (at kind l.i) (truth_next r q))),
       length-set l.sig (32 + l.i) _ ∙ l.invariant.2,
     )

@@ -2,7 +2,7 @@
 use Rattle.std.proofs.Common.{◌+◌, arith, length-set, ◌∙◌}
 use Rattle.search.specs.inner.Rows.{Level}
 use Rattle.search.proofs.Putting.{climb}
-use Rattle.graph.proofs.Fills.{fill-with}
+use Rattle.graph.proofs.Fills.{fill_with}
 use Rattle.search.proofs.rows.levels_of.Goals as goal
 
 -- A cell of level m has a place.
@@ -15,4 +15,4 @@ loop-i-preserved c =
     let l = c.loop-i in
     let levels = c.args.levels.now in
     let q : Level levels c.args.many l.i m = record { from = l.invariant.0; below = grind arith; few = c.loop-m-test.true } in
-    (omega arith, omega arith, length-set l.level l.i m ∙ l.invariant.2, fill-with (Level levels c.args.many) l.level l.i m (bounds-level-i c) q l.invariant.3)
+    (omega arith, omega arith, length-set l.level l.i m ∙ l.invariant.2, fill_with (Level levels c.args.many) l.level l.i m (bounds-level-i c) q l.invariant.3)

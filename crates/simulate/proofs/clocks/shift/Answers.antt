@@ -2,16 +2,16 @@
 use Rattle.std.proofs.Common.{◌≡◌, ℕ, List, ◌<◌, ◌^◌, set, arith, refl, sym, subst, ap, ◌∙◌}
 use Rattle.graph.specs.Columns.{at}
 use Rattle.simulate.specs.Clock.{shifted}
-use Rattle.simulate.specs.inner.Signals.{written, Movable, withShifts}
-use Rattle.simulate.proofs.Written.{written-more, written-other}
+use Rattle.simulate.specs.inner.Signals.{written, Movable, with_shifts}
+use Rattle.simulate.proofs.Written.{written_more, written_other}
 use Rattle.simulate.proofs.clocks.shift.Goals as goal
 
 -- No edge before it in the list is this one, so its word is still as it was.
-untouched : (registers from count sig words now : List ℕ) (n size i : ℕ) → Movable registers n from count words size → i < n → now ≡ withShifts registers i from count sig words
+untouched : (registers from count sig words now : List ℕ) (n size i : ℕ) → Movable registers n from count words size → i < n → now ≡ with_shifts registers i from count sig words
     → at now (at registers i) ≡ at words (at registers i)
 untouched registers from count sig words now n size i m h e =
     ap (λ xs. at xs (at registers i)) e
-    ∙ written-other _ _ i words (at registers i) (λ j l q. let z : j ≡ i = m.apart j i (omega arith) h q in omega arith)
+    ∙ written_other _ _ i words (at registers i) (λ j l q. let z : j ≡ i = m.apart j i (omega arith) h q in omega arith)
 
 pub loop-i-init : goal.loop-i-init
 unfolding written
@@ -32,5 +32,5 @@ loop-i-preserved c =
     let edge = at a.registers.now l.i in (
       omega arith,
       ap (set l.words edge) (c.shift_in.ensures ∙ ap (λ word. shifted (at a.count.now edge) word (at a.sig.now (at a.from.now edge))) (untouched _ _ _ _ _ _ _ _ _ c.requires.0 c.loop-i-test.true l.invariant.1))
-          ∙ written-more _ _ l.i _ l.invariant.1,
+          ∙ written_more _ _ l.i _ l.invariant.1,
     )

@@ -1,6 +1,6 @@
 -- The next node is no input, and goes to the list; or it is one.
 use Rattle.std.proofs.Common.{◌<◌, length, arith}
-use Rattle.graph.proofs.Fills.{filtered-hit, filtered-miss}
+use Rattle.graph.proofs.Fills.{filtered_hit, filtered_miss}
 use Rattle.simulate.specs.inner.Plan.{NoInput}
 use Rattle.simulate.proofs.plan.gates_of.Goals.{then-kind-v-ne0, else-kind-v-ne0}
 use Rattle.simulate.proofs.plan.gates_of.Goals as goal
@@ -11,6 +11,6 @@ loop-i-preserved c =
     let l = c.loop-i in
     let room : l.n < length l.list = omega (arith, l.invariant.1.few) in
     elim c.if-kind-v-ne0.branch [
-      | then-kind-v-ne0 w ↦ (omega arith, rw (w.list-is, w.n-is) (filtered-hit (NoInput a.kind.now) a.order.now l.i l.list l.n l.invariant.1 w.if-kind-v-ne0.true room))
-      | else-kind-v-ne0 w ↦ (omega arith, rw (w.list-is, w.n-is) (filtered-miss (NoInput a.kind.now) a.order.now l.i l.list l.n l.invariant.1 (λ n. n w.if-kind-v-ne0.false)))
+      | then-kind-v-ne0 w ↦ (omega arith, rw (w.list-is, w.n-is) (filtered_hit (NoInput a.kind.now) a.order.now l.i l.list l.n l.invariant.1 w.if-kind-v-ne0.true room))
+      | else-kind-v-ne0 w ↦ (omega arith, rw (w.list-is, w.n-is) (filtered_miss (NoInput a.kind.now) a.order.now l.i l.list l.n l.invariant.1 (λ n. n w.if-kind-v-ne0.false)))
     ]

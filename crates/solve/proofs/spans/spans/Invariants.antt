@@ -1,4 +1,4 @@
--- `solve::spans::spans` meets its contract: the cells before i have their spans, and `spans-more` is a turn.
+-- `solve::spans::spans` meets its contract: the cells before i have their spans, and `spans_more` is a turn.
 use Prim.Native.Nat.{◌-◌, ◌≤◌}
 use mathlib.Core.Path.{◌≡◌}
 use lib.ListN.{length}

@@ -1,7 +1,7 @@
 -- The member at hand is kept, or not.
 use Rattle.std.proofs.Common.{◌+◌, arith}
 use Rattle.starts.specs.inner.Ring.{AskedAt}
-use Rattle.starts.proofs.Kept.{keeping-like, keeping-hit, keeping-miss}
+use Rattle.starts.proofs.Kept.{keeping_like, keeping_hit, keeping_miss}
 use Rattle.starts.proofs.ring.keep_asked.Goals.{then-s-lab-lt-BIAS, else-s-lab-lt-BIAS}
 use Rattle.starts.proofs.ring.keep_asked.Goals as goal
 
@@ -12,7 +12,7 @@ loop-i-preserved c =
     let P = AskedAt a.lab.now a.s in (
       omega arith,
       elim c.if-s-lab-lt-BIAS.branch [
-        | then-s-lab-lt-BIAS w ↦ keeping-like P a.list.now (l.i + 1) w.list-is w.kept-is (keeping-hit P a.list.now l.i l.list l.kept l.invariant.1 (omega arith) (omega (arith, l.invariant.1.size)))
-        | else-s-lab-lt-BIAS w ↦ keeping-like P a.list.now (l.i + 1) w.list-is w.kept-is (keeping-miss P a.list.now l.i l.list l.kept l.invariant.1 (λ h. omega arith))
+        | then-s-lab-lt-BIAS w ↦ keeping_like P a.list.now (l.i + 1) w.list-is w.kept-is (keeping_hit P a.list.now l.i l.list l.kept l.invariant.1 (omega arith) (omega (arith, l.invariant.1.size)))
+        | else-s-lab-lt-BIAS w ↦ keeping_like P a.list.now (l.i + 1) w.list-is w.kept-is (keeping_miss P a.list.now l.i l.list l.kept l.invariant.1 (λ h. omega arith))
       ],
     )

@@ -2,7 +2,7 @@
 use Rattle.std.proofs.Common.{◌≡◌, ◌+◌, ◌-◌, ◌≤◌, ap, ◌∙◌, arith}
 use Rattle.graph.specs.Columns.{at}
 use Rattle.starts.specs.inner.Ring.{further}
-use Rattle.starts.proofs.Slots.{edge-turn}
+use Rattle.starts.proofs.Slots.{edge_turn}
 use Rattle.starts.proofs.ring.turn.Goals as goal
 
 pub returns-then-s-gt0 : goal.returns-then-s-gt0
@@ -13,5 +13,5 @@ returns-then-s-gt0 c =
     let late : 32 ≤ t = omega arith in
     λ i l k x y.
     let r = (c.requires.slotable_of i l).1 in
-    c.advance.ensures k (omega (arith, r.in-slots)) ∙ ap further (c.requires.by_index t late q c.if-s-gt0.true i l k x y)
-    ∙ edge-turn a.from.now a.count.now a.start.now (at a.ins.now k) t a.s (r.edges k x y) late q
+    c.advance.ensures k (omega (arith, r.in_slots)) ∙ ap further (c.requires.by_index t late q c.if-s-gt0.true i l k x y)
+    ∙ edge_turn a.from.now a.count.now a.start.now (at a.ins.now k) t a.s (r.edges k x y) late q

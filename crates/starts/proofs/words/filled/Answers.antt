@@ -3,15 +3,15 @@ use Rattle.std.proofs.Common.{◌+◌, ◌-◌, ◌*◌, ◌^◌, ◌<◌, sym, 
 use mathlib.Core.Path.{ap₂}
 use Rattle.graph.specs.Columns.{at}
 use Rattle.theory.proofs.numbers.Sums.{sum_more}
-use Rattle.moves.proofs.Words.{put-short}
-use Rattle.starts.proofs.Slots.{slot-in}
+use Rattle.moves.proofs.Words.{put_short}
+use Rattle.starts.proofs.Slots.{slot_in}
 use Rattle.starts.proofs.words.filled.Goals as goal
 
 pub bounds-ring-c : goal.bounds-ring-c
 bounds-ring-c c =
     let a = c.args in
     let p = c.requires.word_bound in
-    omega (arith, c.slot-c.ensures, slot-in a.from a.w a.start (c.loop-t.t + 16384 - a.label) p.1, p.3)
+    omega (arith, c.slot-c.ensures, slot_in a.from a.w a.start (c.loop-t.t + 16384 - a.label) p.1, p.3)
 
 pub loop-t-preserved : goal.loop-t-preserved
 loop-t-preserved c =
@@ -21,7 +21,7 @@ loop-t-preserved c =
     let x = at a.ring.now c.slot-c.result in (
       omega arith,
       omega arith,
-      subst (λ y. y < 2 ^ (l.t + 1)) (sym c.put_bit-new.ensures) (put-short l.new l.t x l.invariant.2 (p.4 c.slot-c.result)),
+      subst (λ y. y < 2 ^ (l.t + 1)) (sym c.put_bit-new.ensures) (put_short l.new l.t x l.invariant.2 (p.4 c.slot-c.result)),
       λ f q h.
           c.put_bit-new.ensures
           ∙ ap₂ (λ y z. y + z * 2 ^ l.t) (l.invariant.3 f q (λ i u v. h i u (omega arith))) (ap (at a.ring.now) c.slot-c.ensures ∙ h l.t l.invariant.0 (omega arith))

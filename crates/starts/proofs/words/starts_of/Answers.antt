@@ -3,26 +3,26 @@ use Rattle.std.proofs.Common.{◌≡◌, ◌≤◌, length, refl, subst, ◌∙�
 use lib.ListN.{length-set}
 use Rattle.graph.specs.Columns.{at}
 use Rattle.moves.specs.inner.Columns.{Filled, none}
-use Rattle.moves.proofs.Labels.{low-edges, chosen_is}
-use Rattle.moves.proofs.Fills.{filled-zeros, filled_more}
-use Rattle.starts.specs.inner.Starts.{start_at, startsAt}
-use Rattle.starts.proofs.Found.{chosen-found, fillable, shown-found}
+use Rattle.moves.proofs.Labels.{low_edges, chosen_is}
+use Rattle.moves.proofs.Fills.{filled_zeros, filled_more}
+use Rattle.starts.specs.inner.Starts.{start_at, starts_at}
+use Rattle.starts.proofs.Found.{chosen_found, fillable, shown_found}
 use Rattle.starts.proofs.words.starts_of.Goals as goal
 
 pub loop-e-init : goal.loop-e-init
-loop-e-init c = (omega arith, refl, λ n w. filled-zeros _ 1024)
+loop-e-init c = (omega arith, refl, λ n w. filled_zeros _ 1024)
 
 pub bounds-net-e : goal.bounds-net-e
-bounds-net-e c = omega (arith, low-edges _ _ c.requires.0.labelled, c.loop-e-test.true)
+bounds-net-e c = omega (arith, low_edges _ _ c.requires.0.labelled, c.loop-e-test.true)
 
 pub bounds-net-e-in-loop-e : goal.bounds-net-e-in-loop-e
-bounds-net-e-in-loop-e c = omega (arith, low-edges _ _ c.requires.0.labelled, c.loop-e-test.true)
+bounds-net-e-in-loop-e c = omega (arith, low_edges _ _ c.requires.0.labelled, c.loop-e-test.true)
 
 pub bounds-net-e-in-loop-e-2 : goal.bounds-net-e-in-loop-e-2
-bounds-net-e-in-loop-e-2 c = omega (arith, low-edges _ _ c.requires.0.labelled, c.loop-e-test.true)
+bounds-net-e-in-loop-e-2 c = omega (arith, low_edges _ _ c.requires.0.labelled, c.loop-e-test.true)
 
 pub bounds-net-e-in-loop-e-3 : goal.bounds-net-e-in-loop-e-3
-bounds-net-e-in-loop-e-3 c = omega (arith, low-edges _ _ c.requires.0.labelled, c.loop-e-test.true)
+bounds-net-e-in-loop-e-3 c = omega (arith, low_edges _ _ c.requires.0.labelled, c.loop-e-test.true)
 
 pub filled-requires-clause-chosen_le_count : goal.filled-requires-clause-chosen_le_count
 filled-requires-clause-chosen_le_count c =
@@ -45,7 +45,7 @@ filled-requires-clause-word_bound c =
     (fillable a.net a.lab.now a.counts.now m l.e h _ many (at a.words.now l.e) c.ring_of-ring.result (c.requires.1.fits l.e h) rows c.ring_of-ring.ensures).1
 
 pub bounds-new-e : goal.bounds-new-e
-bounds-new-e c = omega (arith, low-edges _ _ c.requires.0.labelled, c.loop-e-test.true)
+bounds-new-e c = omega (arith, low_edges _ _ c.requires.0.labelled, c.loop-e-test.true)
 
 pub loop-e-preserved : goal.loop-e-preserved
 loop-e-preserved c =
@@ -58,9 +58,9 @@ loop-e-preserved c =
       omega arith,
       length-set l.new l.e x ∙ l.invariant.1,
       λ n w.
-          filled_more (startsAt a.net a.lab.now a.counts.now n) none l.new l.e x (omega (arith, low-edges _ _ m.labelled, h, l.invariant.1))
-          (c.filled.ensures (start_at a.net a.lab.now n l.e) (chosen-found a.net a.lab.now a.counts.now m l.e h _ many n _ (w l.e h))
-          (shown-found a.net a.lab.now a.counts.now m l.e h _ many n c.ring_of-ring.result c.ring_of-ring.ensures))
+          filled_more (starts_at a.net a.lab.now a.counts.now n) none l.new l.e x (omega (arith, low_edges _ _ m.labelled, h, l.invariant.1))
+          (c.filled.ensures (start_at a.net a.lab.now n l.e) (chosen_found a.net a.lab.now a.counts.now m l.e h _ many n _ (w l.e h))
+          (shown_found a.net a.lab.now a.counts.now m l.e h _ many n c.ring_of-ring.result c.ring_of-ring.ensures))
           (l.invariant.2 n w),
     )
 
@@ -68,4 +68,4 @@ pub returns : goal.returns
 returns c =
     let a = c.args in
     let l = c.loop-e in
-    λ n w. subst (λ i. Filled (startsAt a.net a.lab.now a.counts.now n) none i l.new) (let z : l.e ≡ a.net.edges = omega arith in z) (l.invariant.2 n w)
+    λ n w. subst (λ i. Filled (starts_at a.net a.lab.now a.counts.now n) none i l.new) (let z : l.e ≡ a.net.edges = omega arith in z) (l.invariant.2 n w)
