@@ -14,6 +14,7 @@ import sys
 from collections import Counter
 from collections.abc import Callable
 from pathlib import Path
+from typing import Any
 
 import quoting_cases as quoting
 import rails_cases as rails
@@ -24,6 +25,7 @@ import walking_cases as walking
 from netlists import CARDS
 from reference import frame_line, reread, text_of
 from retiming import listing
+from upward import drawn_upward
 
 SEED = 20010
 
@@ -46,13 +48,13 @@ def batch_run() -> tuple[bytes, bytes]:
     for name, cases in reading.reading_cases(SEED).items():
         given += [job(0, case.text) for case in cases]
         printed += told("reread", name, [reading.expected(case) for case in cases])
-    for name, cases in retiming.retiming_cases(SEED).items():
+    for name, cases in with_earlier(retiming.retiming_cases).items():
         given += [job(7, case.text) for case in cases]
         printed += told("list", name, [retiming.expected(case) for case in cases])
     for name, cases in running.running_cases(SEED).items():
         given += [job(8, case.text, case.vectors, case.room) for case in cases]
         printed += told("run", name, [running.expected(case) for case in cases])
-    for name, cases in quoting.quoting_cases(SEED).items():
+    for name, cases in with_earlier(quoting.quoting_cases).items():
         given += [job(9, case.text) for case in cases]
         printed += told("quote", name, [quoting.expected(case) for case in cases])
     for name, cases in rails.rails_cases(SEED).items():
@@ -62,6 +64,11 @@ def batch_run() -> tuple[bytes, bytes]:
         given += [job(12, case.text) for case in cases]
         printed += told("walk", name, [walking.expected(case) for case in cases])
     return b"".join(given), b"".join(printed)
+
+
+def with_earlier(draw: Callable[[int], dict[str, list[Any]]]) -> dict[str, list[Any]]:
+    """What is drawn, and what was drawn when a half of a delay went upward."""
+    return {**draw(SEED), "drawn with halves upward": drawn_upward(draw, SEED)}
 
 
 def job(kind: int, text: bytes, vectors: bytes = b"", room: int = 0) -> bytes:

@@ -248,6 +248,7 @@ def cards(rng: Random) -> Iterator[Case]:
     yield unmoved(replace(card_d(2), derate=50))
     yield unmoved(replace(card_d(1), derate=50))  # a half goes to even: the working delay is 0
     yield unmoved(replace(card_d(4), derate=250))  # twice 2
+    yield unmoved(replace(card_d(6), derate=250))
     yield case(replace(card_d(3), derate=250), NO_START)
     yield case(replace(card_d(2), derate=250), NO_START)
     yield case(replace(card_d(1), derate=250), NO_RETIMING)

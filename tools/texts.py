@@ -59,6 +59,7 @@ def built_program() -> Path:
         done = subprocess.run(["rt", "run"], cwd=ROOT / "crates" / "listing", stdin=subprocess.DEVNULL, capture_output=True, check=False)
         sys.stderr.write(done.stderr.decode("utf-8", "replace"))
         if done.returncode != 0 or not PROGRAM.is_file():
+            sys.stderr.write(done.stdout.decode("utf-8", "replace"))
             raise SystemExit("listing: the program could not be built")
     return PROGRAM
 

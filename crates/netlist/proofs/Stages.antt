@@ -1,10 +1,10 @@
 -- Reading a line, in each way that it can go: no line there; a line whose numbers break its rule; a line that fills a row.
 --   Opened, opened, closed         a line decoded by code: its bytes, its numbers and where it ends; or that there is none
 --   opened_read                    its fields are those in the code's array
---   head-.., node-.., edge-..      what the lines from there on come to, in each of the three ways
---   goes_fault, empty_bounds       a stage that stops at a fault
---   goes_done                      a stage that goes on
---   ends_surplus                   what stands behind the last line
+--   head_.., node_.., edge_..      what the lines from there on come to, in each of the three ways
+--   goes_fault, empty_sizes, empty_bounds    a stage that stops at a fault
+--   goes_on, goes_stop, goes_done, goes_end  what a stage leads to: from an equal record of lines, at a fault, and where it goes on
+--   ends_surplus, ends_none        what stands behind the last line
 use Prim.Native.Nat.{ℕ, suc, ◌+◌, ◌-◌, ◌*◌, ◌≤◌, ◌<◌}
 use mathlib.Core.Path.{◌≡◌, ap, sym, ◌∙◌, subst}
 use mathlib.Core.Bool.{true, false}
@@ -12,7 +12,7 @@ use mathlib.Core.List.{List, [], ◌∷◌, ◌++◌}
 use native.Mathlib.Omega.{arith}
 use native.Mathlib.Numerals.{add-one}
 use lib.Seq.{drop-cons}
-use lib.ListN.{length, get_or, drop, replicate, length-append, length-replicate}
+use lib.ListN.{length, get_or, drop, drop_of_length-le, replicate, length-append, length-replicate}
 use Rattle.frame.specs.declared.Frame.{Frame}
 use Rattle.frame.specs.Frame.{bad, line, frame_at, number_at}
 use Rattle.frame.specs.inner.Decoded.{framed}
@@ -21,12 +21,13 @@ use Rattle.frame.proofs.Buffers.{framed_bad, framed_line}
 use Rattle.netlist.specs.declared.Netlist.{Netlist}
 use Rattle.netlist.specs.declared.Answer.{Answer}
 use Rattle.netlist.specs.declared.Answer.TheVariants.{Done, Refused}
+use Rattle.netlist.specs.declared.Place.{Place}
 use Rattle.netlist.specs.declared.Place.TheVariants.{Line}
 use Rattle.netlist.specs.Answer.{at_line}
 use Rattle.netlist.specs.inner.Stages.{Goes}
 use Rattle.netlist.specs.Net.{empty_net, with_head, with_node, with_edge, graph_of}
 use Rattle.rules.specs.Rules.{head_fits, node_fits, edge_fits}
-use Rattle.netlist.specs.Read.{first_line, Lines, fault, nothing_more, edges_from, nodes_from, lines_of}
+use Rattle.netlist.specs.Read.{first_line, Lines, fault, lines, nothing_more, edges_from, nodes_from, lines_of}
 use Rattle.netlist.proofs.Fields.{line_size, Fields, Read, widths, widths_least, head_fields, edge_fields}
 use Rattle.netlist.proofs.Numbers.{number_one, number_two, number_four, front}
 
@@ -139,12 +140,29 @@ pub goes_fault : {a : Answer} {q n : ℕ} {whole : Lines} (rest : Lines) {net : 
     → a ≡ Refused q (Line n) → net ≡ empty_net → whole ≡ fault (at_line q n) → Goes a whole rest net
 goes_fault {whole = whole} rest {net} e h w = subst (λ a. Goes a whole rest net) (sym e) (w, h)
 
-pub empty_bounds : {A : Type 0} {net : Netlist} {line most : ℕ} → A × (net ≡ empty_net) × (line ≡ 0) → (net.nodes ≤ 512) × (net.edges ≤ 1024) × (line ≤ most)
+pub empty_sizes : {net : Netlist} → net ≡ empty_net → (net.nodes ≤ 512) × (net.edges ≤ 1024)
 unfolding with_head
-empty_bounds h = (omega (arith, ap (λ n. n.nodes) h.1), omega (arith, ap (λ n. n.edges) h.1), omega (arith, h.2))
+empty_sizes h = (omega (arith, ap (λ n. n.nodes) h), omega (arith, ap (λ n. n.edges) h))
 
-pub goes_done : (a : Answer) (whole rest : Lines) (net : Netlist) {n : ℕ} → a ≡ Done n → Goes a whole rest net → whole ≡ rest
-goes_done a whole rest net e g = subst (λ b. Goes b whole rest net) e g
+pub empty_bounds : {A : Type 0} {net : Netlist} {line most : ℕ} → A × (net ≡ empty_net) × (line ≡ 0) → (net.nodes ≤ 512) × (net.edges ≤ 1024) × (line ≤ most)
+empty_bounds h = let s = empty_sizes h.1 in (s.0, s.1, omega (arith, h.2))
 
-pub ends_surplus : (t : List ℕ) (at n : ℕ) (net : Netlist) → at < length t → nothing_more (drop at t) n net ≡ fault (at_line 1 n)
-ends_surplus t at n net h = rw (drop-cons t at 0 h)
+module _ (a : Answer) (whole rest : Lines) (net : Netlist) where
+  pub goes_on : {all : Lines} → all ≡ whole → Goes a whole rest net → Goes a all rest net
+  goes_on e g = subst (λ l. Goes a l rest net) (sym e) g
+
+  pub goes_stop : {q : ℕ} {p : Place} (other : Lines) → a ≡ Refused q p → Goes a whole rest net → Goes a whole other net
+  goes_stop other e g = subst (λ b. Goes b whole other net) (sym e) (subst (λ b. Goes b whole rest net) e g)
+
+  pub goes_done : {n : ℕ} → a ≡ Done n → Goes a whole rest net → whole ≡ rest
+  goes_done e g = subst (λ b. Goes b whole rest net) e g
+
+  pub goes_end : {n : ℕ} → a ≡ Done n → whole ≡ rest → Goes a whole rest net
+  goes_end e g = subst (λ b. Goes b whole rest net) (sym e) g
+
+module _ (t : List ℕ) (at n : ℕ) (net : Netlist) where
+  pub ends_surplus : at < length t → nothing_more (drop at t) n net ≡ fault (at_line 1 n)
+  ends_surplus h = rw (drop-cons t at 0 h)
+
+  pub ends_none : length t ≤ at → nothing_more (drop at t) n net ≡ lines net
+  ends_none h = rw (drop_of_length-le t h)

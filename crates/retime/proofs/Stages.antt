@@ -1,7 +1,7 @@
 -- From what a stage of the call found to what it promises.
 --   moves_refused                  `moved_by`: 9, 10, 11
---   new_rows, by_done              `retime_by`: the new netlist has as many rows; both are put, as there is room
---   labelled                       `retime_net`: the labels are those of a legal retiming
+--   by_refused, new_rows, by_done  `retime_by`: the same; the new netlist has as many rows; both are put, as there is room
+--   own_text, labelled             `retime_net`: a text that reads is the netlist's own; the labels are those of a legal retiming
 --   Promised, promised, stop, reads, goes_on    `retime`
 use Prim.Native.Nat.{ℕ, ◌+◌, ◌≤◌, ◌<◌}
 use native.Mathlib.Omega.{arith}
@@ -21,6 +21,7 @@ use Rattle.netlist.specs.Write.{joined, text_of, text_in}
 use Rattle.netlist.proofs.Fits.{clash}
 use Rattle.netlist.proofs.Run.{fit_rows}
 use Rattle.netlist.proofs.Written.{text_put}
+use Rattle.netlist.proofs.theorems.Sound.{reads_text}
 use Rattle.simulate.proofs.Answered.{says_refused, reads_done}
 use Rattle.simulate.proofs.Ran.{reads_zero}
 use Rattle.lags.proofs.Laws.{read_sure}
@@ -37,6 +38,17 @@ pub moves_refused : (net : Netlist) (r : ℕ → ℤ) {q k p : ℕ} → MovedBy 
 moves_refused net r row new = record { choice = 0; answer = row; moved = λ n z. clash (cc) }
 
 module _ (net : Netlist) (lab : List ℕ) (out : List ℕ) (lags : List ℤ) (b : Answer) (new : Netlist) (m : MovesTo net (lags_of lab) (says b) new) where
+  pub by_refused : {q : ℕ} {p : Place} → b ≡ Refused q p → Leaves (MovedBy net) net out lags (says b) out lags
+  by_refused e =
+      let z = sym (says_refused b e).2 in
+      record {
+        lag = lags_of lab;
+        choice = m.choice;
+        answer = m.answer;
+        buffer = ap (λ s. holds s (text_of (moved_net net (lags_of lab) m.choice)) out) z;
+        table = ap (λ s. holds s (lag_table net (lags_of lab)) lags) z;
+      }
+
   module _ {k : ℕ} (e : b ≡ Done k) where
     new_is : new ≡ moved_net net (lags_of lab) m.choice
     new_is = m.moved k (ap says e)
@@ -67,6 +79,9 @@ module _ (net : Netlist) (lab : List ℕ) (out : List ℕ) (lags : List ℤ) (b 
               ∙ ap (λ n. holds (value 0) (text_of n) out) new_is;
           table = p ∙ ap (λ n. holds (value 0) (joined (λ v. lags_of lab v ∷ []) n) lags) new_rows.0;
         }
+
+pub own_text : (t : List ℕ) (net : Netlist) → Reads t (value 0) net → t ≡ text_of net
+own_text t net h = reads_text h
 
 pub labelled : (t : List ℕ) (net : Netlist) (lab : List ℕ) → Reads t (value 0) net → length lab ≡ 512 → ((v : ℕ) → v < net.nodes → at lab v < 32768) → LeastLags net (lags_of lab) → Labelled net lab
 labelled t net lab h rows small l =

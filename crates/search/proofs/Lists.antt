@@ -8,6 +8,7 @@
 --   list_fulfils        where its choice gives what is due, the list of a choice fulfils
 --   list_least          and no other list of that choice that fulfils is preferred to it
 --   Tried c best        no list whose choice is below c, and that fulfils, is preferred to the best so far, which fulfils
+--   tried_none          no choice and no list yet
 --   tried_on            some more choices, which do not give what is due
 --   tried_more          a choice that does, and the better of its list and the best so far
 --   tried_end           where no later list is preferred, the best so far is the best of all
@@ -140,6 +141,9 @@ module _ {cells k : ℕ} {P : Program} {fill : List ℕ} (a : Fillable cells k f
 pub record Tried (k : ℕ) (P : Program) (due : List ℕ) (total : ℕ) (fill : List ℕ) (c : ℕ) (best : Choice) : Type 0 where
   pub fulfils : best.found ≡ true → (best.choice < 2 ^ (length fill + k)) × Fulfils k P due total fill best.choice
   pub kept : (d : ℕ) → d < 2 ^ (length fill + k) → d % 2 ^ k < c → Fulfils k P due total fill d → (best.found ≡ true) × ¬ Prefers d best.choice
+
+pub tried_none : {k : ℕ} {P : Program} {due : List ℕ} {total : ℕ} {fill : List ℕ} {best : Choice} → best.found ≡ false → Tried k P due total fill 0 best
+tried_none none = record { fulfils = λ f. absurd (let y : true ≡ false = sym f ∙ none in cc); kept = λ d h l f. absurd (let y : ⊥ = omega arith in y) }
 
 module _ {k : ℕ} {P : Program} {due : List ℕ} {total : ℕ} {fill : List ℕ} {c : ℕ} {best : Choice} (t : Tried k P due total fill c best) where
   pub tried_on : (n : ℕ) → ((d : ℕ) → c ≤ d → d < n → ¬ GivesDues k P due total d) → Tried k P due total fill n best

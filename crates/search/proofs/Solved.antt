@@ -1,4 +1,5 @@
 -- From rows back to what is due.
+--   owes_wider          what is due of some cells is due of more
 --   solves_planned      the best list by what the rows hold is the best by what is due
 --   plan_of             what the search is given
 use Prim.Native.Nat.{ℕ, suc, ◌+◌, ◌^◌, ◌/◌, ◌%◌, ◌<◌, ◌≤◌}
@@ -11,7 +12,7 @@ use lib.ListN.{length}
 use Rattle.graph.specs.Columns.{at}
 use Rattle.search.specs.declared.Size.{Size}
 use Rattle.search.specs.declared.choices.Extent.{Extent}
-use Rattle.search.specs.inner.Program.{Program, value_at, RightProgram, GivesDues, Solves, Levelled}
+use Rattle.search.specs.inner.Program.{Program, value_at, RightProgram, Owes, GivesDues, Solves, Levelled}
 use Rattle.search.specs.inner.Rows.{Level, Rows, SameDues}
 use Rattle.search.specs.inner.States.{Plan, RowsPlanned}
 
@@ -25,6 +26,16 @@ module _ (k : ℕ) (P : Program) {due : List ℕ} {total : ℕ} {row : List ℕ}
   solves_same : (fill : List ℕ) (found : Bool) (c : ℕ) → Solves k P row dues fill found c → Solves k P due total fill found c
   solves_same fill true c r = (r.0, (due_holds (c % 2 ^ k) r.1.0, r.1.1), λ d l p w. r.2 d l p (row_holds (d % 2 ^ k) w.0, w.1))
   solves_same fill false c r = λ d l w. r d l (row_holds (d % 2 ^ k) w.0, w.1)
+
+pub owes_wider : {cells : ℕ} (n : ℕ) {due begin : List ℕ} {edges : ℕ} → Owes cells due begin edges → cells ≤ n → Owes n due begin edges
+owes_wider n o h = record {
+  begin_rows = o.begin_rows;
+  due_rows = o.due_rows;
+  few = o.few;
+  none = o.none;
+  rising = o.rising;
+  cell = λ x l. omega (arith, o.cell x l);
+}
 
 pub solves_planned : {s : Size} {due begin level row left : List ℕ} {e : Extent} → RowsPlanned s due begin level row left e
     → (P : Program) (fill : List ℕ) (found : Bool) (c : ℕ) → Solves e.bits P row e.dues fill found c → Solves s.bits P due (at begin s.edges) fill found c

@@ -6,7 +6,8 @@
 --   Searching best c p sig d     the search's state: the lists of the choices below c are tried, the cells below p are evaluated under c, the first d dues agree with c
 --   searching_on        more cells are evaluated
 --   searching_turn      one due further, where it agrees
---   searching_jump      a later choice
+--   searching_start     the choice 0, no cell, no due and no list yet
+--   searching_jump, jump_up     a later choice
 --   searching_drop      the next choice that is not dropped with this one, where a due does not agree
 --   searching_next      the next choice, where all agree
 --   searching_found, searching_none   the best list is found: one whose fillings are all 0, or all choices are tried
@@ -15,10 +16,11 @@
 -- values (`jump_keeps`), and what was due of them agrees still. They and their dues were all looked at before the wrong one, whose level is no lower.
 use Prim.Native.Nat.{ℕ, suc, ◌+◌, ◌-◌, ◌^◌, ◌/◌, ◌%◌, ◌<◌, ◌≤◌}
 use native.Mathlib.Omega.{arith}
-use native.Mathlib.Nat.{div-eq_of_lt-le, div-mul-le_self, mod-eq_of_lt, mod-le}
+use native.Mathlib.Nat.{zero-div, div-eq_of_lt-le, div-mul-le_self, mod-eq_of_lt, mod-le}
 use native.Mathlib.Decide.{ℕ_discrete, dec_lt}
 use native.Mathlib.Numerals.{add-one}
 use mathlib.Core.Path.{◌≡◌, sym, subst, ap, ◌∙◌}
+use mathlib.Core.Bool.{false}
 use mathlib.Core.Logic.{⊎_elim, ◌⊎◌, inl, inr}
 use mathlib.Core.List.{List, map}
 use lib.ListN.{length, set, length-set}
@@ -36,7 +38,7 @@ use Rattle.search.specs.inner.States.{Evaluator, program_in, Executable, Valued,
 use Rattle.search.proofs.Putting.{climb}
 use Rattle.search.proofs.Next.{next_bounds}
 use Rattle.search.proofs.Values.{part_same, look_bit, look_cell, values_at, value_gate, operand_bit, agree}
-use Rattle.search.proofs.Lists.{prefers_low, prefers_through, list_fulfils, list_least, Tried, tried_on, tried_more, tried_end}
+use Rattle.search.proofs.Lists.{prefers_low, prefers_through, list_fulfils, list_least, Tried, tried_none, tried_on, tried_more, tried_end}
 
 -- ── Cells ───────────────────────────────────────────────────────────────────────────────────
 
@@ -105,6 +107,21 @@ climbs : {e : Extent} {P : Program} {level row left : List ℕ} → Plan e P lev
 climbs {e} g = climb e.levels (suc e.bits) (λ n h. g.levelled.climbs n (omega arith))
 
 module _ {e : Extent} {P : Program} {level row left fill : List ℕ} (g : Plan e P level row left) where
+  pub searching_start : {best : Choice} → best.found ≡ false → (sig : List ℕ) → 32 + e.cells ≤ length sig → ((x : ℕ) → x < 32 → at sig x ≡ 0)
+      → Searching e P row fill best 0 0 sig 0
+  searching_start none sig n z = record {
+    limit = omega arith;
+    tried = tried_none none;
+    valued = record {
+      size = n;
+      few = omega arith;
+      bits = λ x h. z x (omega (arith, g.program.few_bits)) ∙ sym (ap (λ v. v % 2) (zero-div (2 ^ (e.bits - suc x))));
+      values = λ i h. absurd (let y : ⊥ = omega arith in y);
+    };
+    few = omega arith;
+    agreed = λ x h. absurd (let y : ⊥ = omega arith in y);
+  }
+
   module _ {best : Choice} {c p : ℕ} {sig : List ℕ} {d : ℕ} (s : Searching e P row fill best c p sig d) where
     pub searching_on : {q : ℕ} {after : List ℕ} → Valued e.cells e.bits P c q after → Searching e P row fill best c q after d
     searching_on v = record { limit = s.limit; tried = s.tried; valued = v; few = s.few; agreed = s.agreed }
@@ -114,6 +131,9 @@ module _ {e : Extent} {P : Program} {level row left fill : List ℕ} (g : Plan e
 
     -- A later choice: a jump from level m, where the cells and the dues below the first changed level were looked at.
     module _ {m : ℕ} (low : m ≤ e.bits) (small : c < 2 ^ e.bits) {after : List ℕ} {t : Turn} (j : Jumped c e.bits m e.levels e.rows sig after t) where
+      pub jump_up : c < t.choice
+      jump_up = omega (arith, j.next, (next_bounds c e.bits (e.bits - m) small (omega arith)).0)
+
       module _ (early : at e.levels j.level ≤ p) (before : at e.rows j.level ≤ d) where
         -- Cells that depend on unchanged bits alone.
         jump_keeps : (n : ℕ) → n < at e.levels j.level → value_at P e.bits c n ≡ value_at P e.bits t.choice n

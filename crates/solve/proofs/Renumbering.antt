@@ -1,10 +1,11 @@
 -- The program copied under the new numbers.
 --   moved_bit, moved_cell      an operand that is a chosen bit, and one that is a cell
+--   redue_more                 one due more
 --   refilled_none, one_filling      what nothing asks for stays so; a filling that is read off a cell, seen in two ways
---   renumbered_turn            one cell more
+--   renumbered_none, renumbered_turn     no cell yet, and one more
 --   append_ready               the operands of a cell can be put, in the code's words
 --   renumbered_room            there is room for the operands of the next cell
-use Prim.Native.Nat.{ℕ, zero, suc, ◌+◌, ◌-◌, ◌≤◌, ◌<◌}
+use Prim.Native.Nat.{ℕ, zero, suc, ◌+◌, ◌-◌, ◌*◌, ◌/◌, ◌%◌, ◌≤◌, ◌<◌}
 use native.Mathlib.Omega.{arith}
 use native.Mathlib.Decide.{ℕ_discrete}
 use native.Mathlib.Numerals.{add-one}
@@ -12,7 +13,7 @@ use mathlib.Core.Path.{◌≡◌, refl, sym, subst, ap, ◌∙◌}
 use mathlib.Core.Logic.{◌⊎◌, inl, inr}
 use mathlib.Core.List.{List}
 use borrow.Author.Tests.{lt-ltb, le-ltb}
-use lib.ListN.{length, set}
+use lib.ListN.{length, set, length-set}
 use lib.Seq.{get_or-set_same, get_or-set_other}
 use Rattle.graph.specs.Columns.{at}
 use Rattle.theory.specs.Move.{sum}
@@ -20,7 +21,7 @@ use Rattle.theory.proofs.numbers.Sums.{sum_once}
 use Rattle.search.specs.inner.Program.{Program, program_of}
 use Rattle.search.proofs.Putting.{climb}
 use Rattle.solve.specs.inner.Parts.{OperandsWired}
-use Rattle.solve.specs.inner.Numbers.{Paired, ins, renumbered, Copied, ProgramRenumbered, Refilled}
+use Rattle.solve.specs.inner.Numbers.{Paired, ins, renumbered, Copied, ProgramRenumbered, Redue, Refilled}
 
 -- ── Operands and dues, one by one ───────────────────────────────────────────────────────────
 
@@ -31,6 +32,22 @@ moved_bit id x h = rw (lt-ltb x 32 h)
 pub moved_cell : (id : List ℕ) (x : ℕ) → 32 ≤ x → renumbered id x ≡ 32 + at id (x - 32)
 unfolding renumbered
 moved_cell id x h = rw (le-ltb x 32 h)
+
+-- The loop of `renumber_dues`: the dues before x are done, the others as they were.
+pub redue_more : (id : List ℕ) (x : ℕ) (old due : List ℕ) → x < length due → length due ≡ length old → Redue id x old due → ((y : ℕ) → x ≤ y → at due y ≡ at old y)
+    → let new = set due x (at id (at due x / 2) * 2 + at due x % 2) in (length new ≡ length old) × Redue id (x + 1) old new × ((y : ℕ) → x + 1 ≤ y → at new y ≡ at old y)
+redue_more id x old due h same done rest = (
+  length-set due x v ∙ same,
+  λ y l. go y l (ℕ_discrete y x),
+  λ y l. get_or-set_other due x y v 0 (λ z. omega arith) ∙ rest y (omega arith),
+)
+  where
+    v : ℕ
+    v = at id (at due x / 2) * 2 + at due x % 2
+
+    go : (y : ℕ) → y < x + 1 → Dec (y ≡ x) → at (set due x v) y ≡ at id (at old y / 2) * 2 + at old y % 2
+    go y l (yes z) = ap (at (set due x v)) z ∙ get_or-set_same due x v 0 h ∙ ap (λ w. at id (w / 2) * 2 + w % 2) (rest x (omega arith) ∙ ap (at old) (sym z))
+    go y l (no z) = get_or-set_other due x y v 0 z ∙ done y (omega arith)
 
 pub refilled_none : (old : ℕ) {id : List ℕ} {new : ℕ} → Refilled id old new → new ≡ 0 → old ≡ 0
 refilled_none zero r z = refl
@@ -44,6 +61,14 @@ one_filling (suc a) (suc b) z q s (inl h) = absurd (let y : ⊥ = omega arith in
 one_filling (suc a) (suc b) z q s (inr h) = inr (sym q ∙ h ∙ s (omega arith) (omega arith))
 
 -- ── Cells, one by one ───────────────────────────────────────────────────────────────────────
+
+pub renumbered_none : {P Q : Program} {id code : List ℕ} → at Q.first 0 ≡ 0 → ProgramRenumbered 0 P id code Q
+renumbered_none e = record {
+  none = e;
+  same_kind = λ q h. absurd (let z : ⊥ = omega arith in z);
+  counts = λ q h. absurd (let z : ⊥ = omega arith in z);
+  same_operand = λ q t h l. absurd (let z : ⊥ = omega arith in z);
+}
 
 pub append_ready : {cells : ℕ} {first operand id code : List ℕ} {i room : ℕ} (start : ℕ) → OperandsWired cells first operand → ((i : ℕ) → i < cells → at first i ≤ at first (suc i))
     → Paired cells id code → i < cells → start + ins first i ≤ room

@@ -36,10 +36,11 @@ returns-then-kind_at-eq1 c =
 pub returns : goal.returns
 unfolding edge_fits
 returns c =
+    let few = le-leb _ 32 c.if-count-gt32.false in
     rw (
       lt-ltb _ _ c.if-nodes-u.false,
       lt-ltb _ _ c.if-nodes-v.false,
-      le-leb _ 32 c.if-count-gt32.false,
+      few,
       sym c.bits_fit.ensures ∙ c.if-not-bits_fit.false,
       ← c.kind_at.ensures,
       ne_eqb _ 1 c.if-kind_at-eq1.false,

@@ -1,5 +1,6 @@
--- The order of preference. These laws are all that is used of it outside the search, so another order needs them and no more.
+-- The order of preference. `prefers_one` and `prefers_well` are all that is used of it outside the search, so another order needs them and no more.
 --   prefers_one         of two different numbers one is preferred
+--   prefers_below       a number that is preferred to one of few bits has no more bits: of this order alone, for `best_every`
 --   prefers_well        of the numbers below n with a property there is one to which none of them is preferred, or none has it
 --   prefers?, prefers_test     a test, which the cards compute
 use Prim.Native.Nat.{ℕ, ◌<◌}
@@ -19,6 +20,10 @@ prefers_one c d n = go (dec_lt c d)
     go : Dec (c < d) → (c < d) ⊎ (d < c)
     go (yes h) = inl h
     go (no h) = inr (omega arith)
+
+pub prefers_below : {d c n : ℕ} → Prefers d c → c < n → d < n
+unfolding Prefers
+prefers_below p h = omega (arith, p, h)
 
 pub prefers_well : {A : ℕ → Type 0} (n : ℕ) → ((c : ℕ) → c < n → Dec (A c))
     → ((c : ℕ) × (c < n) × A c × ((d : ℕ) → d < n → Prefers d c → ¬ (A d))) ⊎ ((c : ℕ) → c < n → ¬ (A c))
