@@ -7,11 +7,10 @@
 --   solved              so the program's answer is retiming's
 use Prim.Native.Nat.{ℕ, ◌+◌, ◌-◌, ◌^◌, ◌/◌, ◌%◌, ◌<◌, ◌≤◌}
 use native.Mathlib.Omega.{arith}
-use native.Mathlib.Nat.{mod-eq_of_lt}
 use mathlib.Core.Path.{◌≡◌, sym, ap, ap₂, ◌∙◌, subst}
 use mathlib.Core.Bool.{Bool, true, false}
 use mathlib.Core.Logic.{⊎_elim, ◌↔◌}
-use mathlib.Core.List.{List, [], map}
+use mathlib.Core.List.{List, map}
 use borrow.Author.Tests.{lt-ltb, le-ltb}
 use lib.IntN.{ℤ}
 use Rattle.theory.specs.Clock.{Regs, seen, sees, value}
@@ -29,7 +28,7 @@ use Rattle.netlist.specs.declared.Netlist.{Netlist}
 use Rattle.netlist.specs.Net.{graph_of, regs_of}
 use Rattle.netlist.specs.Circuit.{SoundIn, choice_at, chosen_in_at}
 use Rattle.netlist.specs.inner.Words.{CarriedAt, LegalAt, chosen_on_at, new_count_at, retimed_at}
-use Rattle.search.specs.inner.Program.{program_of, look, values_to, value_at, RightProgram, GivesDues, Fulfils, Solves}
+use Rattle.search.specs.inner.Program.{program_of, look, values_to, value_at, RightProgram, GivesDues, Solves}
 use Rattle.search.proofs.Values.{look_bit, look_cell, values_at, value_gate}
 use Rattle.choose.specs.inner.Cells.{source, Compiled}
 use Rattle.choose.specs.inner.Wires.{Chooses, Standing}
@@ -161,21 +160,13 @@ module _ (net : Netlist) (ok : SoundIn net) (r : ℕ → ℤ) (legal : LegalAt n
 module _ (net : Netlist) (ok : SoundIn net) (r : ℕ → ℤ) (legal : LegalAt net r)
     {k cells rows : ℕ} {kind first operand due begin : List ℕ} (size : k ≡ chosen_in_at net r)
     (s : Standing net r k cells rows kind first operand due begin) where
-  -- Nothing is filled, so a list is a choice.
-  fulfils : (c : ℕ) → c < 2 ^ chosen_in_at net r → Fulfils k (program_of kind first operand) due (at begin rows) [] c ↔ CarriedAt net r (choice_at net r c)
-  fulfils c h =
-      let e : c % 2 ^ k ≡ c = mod-eq_of_lt (subst (λ n. c < 2 ^ n) (sym size) h) in (
-        λ w. (s.holds c).0 (subst (GivesDues k (program_of kind first operand) due (at begin rows)) e w.0),
-        λ w. (subst (GivesDues k (program_of kind first operand) due (at begin rows)) (sym e) ((s.holds c).1 w), λ x l. absurd (let z : ⊥ = omega arith in z)),
-      )
-
   -- A choice of bits is, where it is looked at, a number below 2 ^ k (`choice_number`).
-  pub solved : (found : Bool) (c : ℕ) → Solves k (program_of kind first operand) due (at begin rows) [] found c → Chooses net r found c
-  solved true c a =
-      let same : 2 ^ (0 + k) ≡ 2 ^ chosen_in_at net r = ap (λ n. 2 ^ n) (omega arith) in
-      let small : c < 2 ^ chosen_in_at net r = omega (arith, a.0) in
-      record { small = small; carried = (fulfils c small).0 a.1; first = λ d h p w. a.2 d (omega arith) p ((fulfils d h).1 w) }
+  pub solved : (found : Bool) (c : ℕ) → Solves k (program_of kind first operand) due (at begin rows) found c → Chooses net r found c
+  solved true c a = record {
+    small = subst (λ n. c < 2 ^ n) size a.0;
+    carried = (s.holds c).0 a.1;
+    first = λ d h p carried. a.2 d p ((s.holds d).1 carried);
+  }
   solved false c a = λ choice bits carried.
       let n = choice_number gate (graph_of net) ok.wired (regs_of net) ok.no_loop r legal choice (λ e t he ht. bits e t) carried in
-      let same : 2 ^ (0 + k) ≡ 2 ^ chosen_in_at net r = ap (λ n. 2 ^ n) (omega arith) in
-      a n.0 (omega (arith, n.1)) ((fulfils n.0 n.1).1 n.2)
+      a n.0 (subst (λ m. n.0 < 2 ^ m) (sym size) n.1) ((s.holds n.0).1 n.2)

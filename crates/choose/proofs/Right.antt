@@ -13,7 +13,7 @@ use native.Mathlib.Decide.{ℕ_discrete, dec_lt}
 use mathlib.Core.Path.{◌≡◌, sym, subst, ap, ◌∙◌}
 use mathlib.Core.Bool.{Bool, true}
 use mathlib.Core.Logic.{◌⊎◌, inl, inr}
-use mathlib.Core.List.{List, []}
+use mathlib.Core.List.{List}
 use borrow.Author.Tests.{lt-ltb, le-ltb}
 use lib.ListN.{length}
 use Rattle.theory.specs.Lag.{up}
@@ -222,7 +222,7 @@ module _ {net : Netlist} {lab counts base : List ℕ} {k : ℕ} (ch : Choosing n
   stands s = rw ch.chosen s
 
   pub chooses : {cells rows : ℕ} {kind first operand due begin : List ℕ} → Standing net (lags_of lab) k cells rows kind first operand due begin
-      → (found : Bool) (c : ℕ) → Solves k (program_of kind first operand) due (at begin rows) [] found c → Chooses net (lags_of lab) found c
+      → (found : Bool) (c : ℕ) → Solves k (program_of kind first operand) due (at begin rows) found c → Chooses net (lags_of lab) found c
   chooses s = solved net m.sound (lags_of lab) m.labelled.legal size s
 
   -- No lag is positive then, so no old value is to be carried.

@@ -107,11 +107,7 @@ fn searched(
     );
     let cells = made.cells;
     let rows = made.rows;
-    // Nothing is filled: a list is a choice.
-    let mut fill = [0u16; 0];
-    solve(
-        &kind, &first, &operand, cells, k, &mut due, &begin, rows, &mut fill,
-    )
+    solve(&kind, &first, &operand, cells, k, &mut due, &begin, rows)
 }
 
 // Whether no lag is above 1: then a cell of the search is a node.

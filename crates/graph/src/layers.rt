@@ -144,6 +144,21 @@ pub fn walk<'a>(
     layer
 }
 
+// Passes up to one that marks nothing: no more are made than there are nodes.
+pub fn layers<'a>(
+    kind: &'a [u8],
+    pin: u8,
+    from: &'a [u16],
+    to: &'a [u16],
+    nodes: usize,
+    edges: usize,
+) -> Layer
+    requires { Laid nodes edges from.now to.now × (nodes ≤ length kind.now) }
+    ensures { AfterPasses nodes edges kind.now pin from.now to.now result × (result.hi ≤ result.lo) }
+{
+    walk(kind, pin, from, to, nodes, edges, nodes + 1)
+}
+
 // 1 for each node that a node of kind `pin` reaches, else 0. With `from` and `to` changed over: that reaches one.
 pub fn reached<'a>(
     kind: &'a [u8],
@@ -156,6 +171,6 @@ pub fn reached<'a>(
     requires { Laid nodes edges from.now to.now × (nodes ≤ length kind.now) }
     ensures { (v : ℕ) → v < nodes → Told (eqb (at result v) 1) (From (column_graph nodes edges kind.now from.now to.now) pin v) }
 {
-    let last = walk(kind, pin, from, to, nodes, edges, nodes + 1);
+    let last = layers(kind, pin, from, to, nodes, edges);
     last.marks
 }

@@ -28,7 +28,7 @@ use Rattle.theory.specs.Move.{digit, Prefers}
 use Rattle.theory.proofs.numbers.Digits.{digit_last, digit_above}
 use Rattle.graph.specs.Columns.{at}
 use Rattle.search.specs.declared.Choice.{Choice}
-use Rattle.search.specs.inner.Program.{Program, value_at, GivesDues, Fillable, FillsTo, Fulfils, Solves}
+use Rattle.search.specs.inner.Program.{Program, value_at, GivesDues, Fillable, FillsTo, Fulfils, SolvesLists}
 use Rattle.search.specs.inner.States.{Valued, ListOf, Better}
 use Rattle.search.proofs.Next.{half}
 use Rattle.search.proofs.Values.{value_bit}
@@ -171,13 +171,13 @@ module _ {k : ℕ} {P : Program} {due : List ℕ} {total : ℕ} {fill : List ℕ
           let q = t.kept d h (omega arith) f in
           prefers_through d best.choice after.choice q.1 (b.over_best q.0)
 
-  pub tried_end : ((d : ℕ) → c ≤ d % 2 ^ k → (best.found ≡ true) × ¬ Prefers d best.choice) → Solves k P due total fill best.found best.choice
+  pub tried_end : ((d : ℕ) → c ≤ d % 2 ^ k → (best.found ≡ true) × ¬ Prefers d best.choice) → SolvesLists k P due total fill best.found best.choice
   tried_end later = go best.found refl
     where
       all : (d : ℕ) → d < 2 ^ (length fill + k) → Fulfils k P due total fill d → Dec (d % 2 ^ k < c) → (best.found ≡ true) × ¬ Prefers d best.choice
       all d h f (yes q) = t.kept d h q f
       all d h f (no q) = later d (omega arith)
 
-      go : (b : Bool) → best.found ≡ b → Solves k P due total fill b best.choice
+      go : (b : Bool) → best.found ≡ b → SolvesLists k P due total fill b best.choice
       go true e = let r = t.fulfils e in (r.0, r.1, λ d h p f. (all d h f (dec_lt (d % 2 ^ k) c)).1 p)
       go false e = λ d h f. let q : true ≡ false = sym (all d h f (dec_lt (d % 2 ^ k) c)).0 ∙ e in cc

@@ -1,18 +1,22 @@
 -- From rows back to what is due.
 --   owes_wider          what is due of some cells is due of more
 --   solves_planned      the best list by what the rows hold is the best by what is due
+--   none_fillable, solves_choice     where nothing is filled a list is a choice
 --   plan_of             what the search is given
 use Prim.Native.Nat.{ℕ, suc, ◌+◌, ◌^◌, ◌/◌, ◌%◌, ◌<◌, ◌≤◌}
 use native.Mathlib.Omega.{arith}
 use native.Mathlib.Numerals.{add-one}
-use mathlib.Core.Path.{◌≡◌, subst}
+use native.Mathlib.Nat.{mod-eq_of_lt}
+use mathlib.Core.Path.{◌≡◌, sym, ap, subst}
+use mathlib.Core.Logic.{◌↔◌}
 use mathlib.Core.Bool.{Bool, true, false}
-use mathlib.Core.List.{List}
+use mathlib.Core.List.{List, []}
 use lib.ListN.{length}
+use Rattle.theory.proofs.moves.Prefers.{prefers_below}
 use Rattle.graph.specs.Columns.{at}
 use Rattle.search.specs.declared.Size.{Size}
 use Rattle.search.specs.declared.choices.Extent.{Extent}
-use Rattle.search.specs.inner.Program.{Program, value_at, RightProgram, Owes, GivesDues, Solves, Levelled}
+use Rattle.search.specs.inner.Program.{Program, value_at, RightProgram, Owes, GivesDues, Fillable, Fulfils, Solves, SolvesLists, Levelled}
 use Rattle.search.specs.inner.Rows.{Level, Rows, SameDues}
 use Rattle.search.specs.inner.States.{Plan, RowsPlanned}
 
@@ -23,7 +27,7 @@ module _ (k : ℕ) (P : Program) {due : List ℕ} {total : ℕ} {row : List ℕ}
   row_holds : (c : ℕ) → GivesDues k P due total c → GivesDues k P row dues c
   row_holds c h d l = let t = s.sound d l in subst (λ y. y % 2 ≡ value_at P k c (y / 2)) t.holds (h t.place t.within)
 
-  solves_same : (fill : List ℕ) (found : Bool) (c : ℕ) → Solves k P row dues fill found c → Solves k P due total fill found c
+  solves_same : (fill : List ℕ) (found : Bool) (c : ℕ) → SolvesLists k P row dues fill found c → SolvesLists k P due total fill found c
   solves_same fill true c r = (r.0, (due_holds (c % 2 ^ k) r.1.0, r.1.1), λ d l p w. r.2 d l p (row_holds (d % 2 ^ k) w.0, w.1))
   solves_same fill false c r = λ d l w. r d l (row_holds (d % 2 ^ k) w.0, w.1)
 
@@ -38,8 +42,28 @@ owes_wider n o h = record {
 }
 
 pub solves_planned : {s : Size} {due begin level row left : List ℕ} {e : Extent} → RowsPlanned s due begin level row left e
-    → (P : Program) (fill : List ℕ) (found : Bool) (c : ℕ) → Solves e.bits P row e.dues fill found c → Solves s.bits P due (at begin s.edges) fill found c
-solves_planned {s} {row = row} {e = e} p P fill found c r = solves_same s.bits P p.same fill found c (subst (λ b. Solves b P row e.dues fill found c) p.bits r)
+    → (P : Program) (fill : List ℕ) (found : Bool) (c : ℕ) → SolvesLists e.bits P row e.dues fill found c → SolvesLists s.bits P due (at begin s.edges) fill found c
+solves_planned {s} {row = row} {e = e} p P fill found c r = solves_same s.bits P p.same fill found c (subst (λ b. SolvesLists b P row e.dues fill found c) p.bits r)
+
+pub none_fillable : {cells k : ℕ} {P : Program} → RightProgram cells k P → Fillable cells k []
+none_fillable f = record { few = omega (arith, f.few_bits); cell = λ x h. absurd (let z : ⊥ = omega arith in z) }
+
+module _ (k : ℕ) (P : Program) (due : List ℕ) (total : ℕ) where
+  unfilled : (c : ℕ) → c < 2 ^ k → Fulfils k P due total [] c ↔ GivesDues k P due total c
+  unfilled c h =
+      let e = mod-eq_of_lt h in (
+        λ w. subst (GivesDues k P due total) e w.0,
+        λ w. (subst (GivesDues k P due total) (sym e) w, λ x l. absurd (let z : ⊥ = omega arith in z)),
+      )
+
+  pub solves_choice : (found : Bool) (c : ℕ) → SolvesLists k P due total [] found c → Solves k P due total found c
+  solves_choice true c a =
+      let same : 2 ^ (0 + k) ≡ 2 ^ k = ap (λ n. 2 ^ n) (omega arith) in
+      let small : c < 2 ^ k = omega (arith, a.0) in
+      (small, (unfilled c small).0 a.1, λ d p w. let h : d < 2 ^ k = prefers_below p small in a.2 d (omega arith) p ((unfilled d h).1 w))
+  solves_choice false c a = λ d h w.
+      let same : 2 ^ (0 + k) ≡ 2 ^ k = ap (λ n. 2 ^ n) (omega arith) in
+      a d (omega arith) ((unfilled d h).1 w)
 
 pub plan_of : {e : Extent} {P : Program} {level due : List ℕ} {total : ℕ} {row left : List ℕ}
     → e.limit ≡ 2 ^ e.bits → RightProgram e.cells e.bits P → Levelled e.cells e.bits P e.levels

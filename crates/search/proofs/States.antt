@@ -32,7 +32,7 @@ use Rattle.gates.specs.inner.Gates.{part, Reckons, InputRows}
 use Rattle.search.specs.declared.Choice.{Choice}
 use Rattle.search.specs.declared.choices.Extent.{Extent}
 use Rattle.search.specs.declared.choices.Turn.{Turn}
-use Rattle.search.specs.inner.Program.{Program, look, values_to, value_at, GivesDues, Fillable, Solves}
+use Rattle.search.specs.inner.Program.{Program, look, values_to, value_at, GivesDues, Fillable, SolvesLists}
 use Rattle.search.specs.inner.Rows.{Level}
 use Rattle.search.specs.inner.States.{Evaluator, program_in, Executable, Valued, next_after, Jumped, ListOf, Better, Plan}
 use Rattle.search.proofs.Putting.{climb}
@@ -126,7 +126,7 @@ module _ {e : Extent} {P : Program} {level row left fill : List ℕ} (g : Plan e
     pub searching_on : {q : ℕ} {after : List ℕ} → Valued e.cells e.bits P c q after → Searching e P row fill best c q after d
     searching_on v = record { limit = s.limit; tried = s.tried; valued = v; few = s.few; agreed = s.agreed }
 
-    pub searching_none : 2 ^ e.bits ≤ c → Solves e.bits P row e.dues fill best.found best.choice
+    pub searching_none : 2 ^ e.bits ≤ c → SolvesLists e.bits P row e.dues fill best.found best.choice
     searching_none h = tried_end s.tried (λ d l. absurd (let y : ⊥ = omega (arith, pow_pos e.bits) in y))
 
     -- A later choice: a jump from level m, where the cells and the dues below the first changed level were looked at.
@@ -223,7 +223,7 @@ module _ {e : Extent} {P : Program} {level row left fill : List ℕ} (g : Plan e
           next = let z : e.bits - e.bits ≡ 0 = omega arith in rw z (omega arith)
 
       -- No later list is preferred to one whose fillings are all 0.
-      pub searching_found : list < 2 ^ e.bits → Solves e.bits P row e.dues fill after.found after.choice
+      pub searching_found : list < 2 ^ e.bits → SolvesLists e.bits P row e.dues fill after.found after.choice
       searching_found h =
           tried_end tried_own
           (λ d l. (b.found, prefers_through d list after.choice (prefers_low list d (omega (arith, o.choice, mod-eq_of_lt h, mod-le d (2 ^ e.bits)))) b.over_list))

@@ -5,7 +5,7 @@
 ghost use Rattle.std.specs.Prelude.{◌≡◌, ℕ, ◌↔◌, ◌+◌, ◌-◌, ◌^◌, ◌≤◌, ◌<◌, true, length};
 ghost use Rattle.theory.specs.Move.{Prefers};
 ghost use Rattle.graph.specs.Columns.{at};
-ghost use Rattle.search.specs.inner.Program.{program_of, Fillable, Solves};
+ghost use Rattle.search.specs.inner.Program.{program_of, Fillable, SolvesLists};
 ghost use Rattle.search.specs.inner.States.{next_after, ChoiceShown, evaluator_of, CanEvaluate, EvaluatedTo, Advanced, Jumped, ListOf, Better, Plan, Fresh};
 
 use crate::Choice;
@@ -168,7 +168,7 @@ pub fn best_list<'a>(
 ) -> Choice
     requires planned { Plan e (program_of kind.now first.now operand.now) level.now row.now left.now × Fresh e.cells truth.old sig.old }
     requires fillable { Fillable e.cells e.bits fill.now }
-    ensures { Solves e.bits (program_of kind.now first.now operand.now)
+    ensures { SolvesLists e.bits (program_of kind.now first.now operand.now)
         row.now e.dues fill.now result.found result.choice }
 {
     let index = index_table();

@@ -7,7 +7,7 @@ mod rows;
 
 ghost use Rattle.std.specs.Prelude.{◌≡◌, ℕ, suc, ◌≤◌, ◌<◌, length};
 ghost use Rattle.graph.specs.Columns.{at};
-ghost use Rattle.search.specs.inner.Program.{program_of, RightProgram, Owes, Fillable, Levelled, Solves};
+ghost use Rattle.search.specs.inner.Program.{program_of, RightProgram, Owes, Fillable, Levelled, Solves, SolvesLists};
 ghost use Rattle.search.specs.inner.States.{cells_of, Searchable, RowsPlanned};
 
 use crate::choices::{Extent, best_list, two_to};
@@ -85,7 +85,7 @@ fn search_few<'a>(
 ) -> Choice
     requires searchable { Searchable s (program_of kind.now first.now operand.now) due.now begin.now fill.now }
     requires s_bound { (cells_of s ≤ 512) × (at begin.now s.edges ≤ 1024) }
-    ensures { Solves s.bits (program_of kind.now first.now operand.now)
+    ensures { SolvesLists s.bits (program_of kind.now first.now operand.now)
         due.now (at begin.now s.edges) fill.now result.found result.choice }
 {
     let mut level = [0u8; FEW_CELLS];
@@ -110,7 +110,7 @@ fn search_many<'a>(
     fill: &[u16],
 ) -> Choice
     requires { Searchable s (program_of kind.now first.now operand.now) due.now begin.now fill.now }
-    ensures { Solves s.bits (program_of kind.now first.now operand.now)
+    ensures { SolvesLists s.bits (program_of kind.now first.now operand.now)
         due.now (at begin.now s.edges) fill.now result.found result.choice }
 {
     let mut level = [0u8; CELLS];
@@ -127,7 +127,7 @@ fn search_many<'a>(
 // The best list: fillings, then a choice of k bits under which every cell gives what is due of it. Cells are in rising order of the leading bits that they
 // depend on; those of level m, which depend on m of them, from levels[m] on. A due 2 i + x asks x of cell i; a run of one edge's clocks goes from begin[e] up
 // to begin[e + 1]. A filling i + 1 in `fill` is the value of cell i; of 0 nothing is asked, and it is 0.
-pub fn search<'a>(
+pub fn search_lists<'a>(
     kind: &'a [u8],
     first: &'a [u16],
     operand: &'a [u16],
@@ -142,7 +142,7 @@ pub fn search<'a>(
     requires levelled { Levelled (at levels (suc k)) k (program_of kind.now first.now operand.now) levels }
     requires owes { Owes (at levels (suc k)) due.now begin.now edges }
     requires fillable { Fillable (at levels (suc k)) k fill.now }
-    ensures { Solves k (program_of kind.now first.now operand.now)
+    ensures { SolvesLists k (program_of kind.now first.now operand.now)
         due.now (at begin.now edges) fill.now result.found result.choice }
 {
     let s = Size {
@@ -154,4 +154,25 @@ pub fn search<'a>(
         return search_few(kind, first, operand, s, due, begin, fill);
     }
     search_many(kind, first, operand, s, due, begin, fill)
+}
+
+// The best choice of k bits under which every cell gives what is due of it: nothing is filled, so a list is a choice.
+pub fn search<'a>(
+    kind: &'a [u8],
+    first: &'a [u16],
+    operand: &'a [u16],
+    levels: [u16; LEVELS],
+    k: u32,
+    due: &'a [u16],
+    begin: &'a [u16],
+    edges: usize,
+) -> Choice
+    requires right_program { RightProgram (at levels (suc k)) k (program_of kind.now first.now operand.now) }
+    requires levelled { Levelled (at levels (suc k)) k (program_of kind.now first.now operand.now) levels }
+    requires owes { Owes (at levels (suc k)) due.now begin.now edges }
+    ensures { Solves k (program_of kind.now first.now operand.now)
+        due.now (at begin.now edges) result.found result.choice }
+{
+    let fill = [0u16; 0];
+    search_lists(kind, first, operand, levels, k, due, begin, edges, &fill)
 }

@@ -22,7 +22,7 @@ use lib.Seq.{drop-cons}
 use Rattle.theory.specs.Gate.{gate}
 use Rattle.theory.specs.Move.{digit}
 use Rattle.graph.specs.Columns.{at}
-use Rattle.search.specs.inner.Program.{Program, look, values_to, value_at, RightProgram, Owes, GivesDues, Fillable, FillsTo, Fulfils, Solves, Levelled}
+use Rattle.search.specs.inner.Program.{Program, look, values_to, value_at, RightProgram, Owes, GivesDues, Fillable, FillsTo, Fulfils, SolvesLists, Levelled}
 use Rattle.solve.specs.inner.Parts.{OperandsWired, BitsBelow}
 use Rattle.solve.specs.inner.Numbers.{Ranked, ins, renumbered, ProgramRenumbered, Redue, Refill}
 use Rattle.search.proofs.Values.{look_bit, look_cell, values_at, value_gate}
@@ -240,7 +240,7 @@ module _ {cells k : ℕ} {P Q : Program} {id code levels : List ℕ} (f : RightP
       fulfils : (c : ℕ) → Fulfils k P due (at begin edges) fill c → Fulfils k Q dues (at begin edges) fills c
       fulfils c v = (holds_new (c % 2 ^ k) v.0, fills_new fills a r' same c v.1)
 
-      pub solves_old : (found : Bool) (c : ℕ) → Solves k Q dues (at begin edges) fills found c → Solves k P due (at begin edges) fill found c
+      pub solves_old : (found : Bool) (c : ℕ) → SolvesLists k Q dues (at begin edges) fills found c → SolvesLists k P due (at begin edges) fill found c
       solves_old true c w = (rw (← same) w.0, (holds_old (c % 2 ^ k) w.1.0, fills_old fills a r' same c w.1.1), λ e l p v. w.2 e (rw same l) p (fulfils e v))
       solves_old false c w = λ e l v. w e (rw same l) (fulfils e v)
 

@@ -9,11 +9,11 @@ mod spans;
 
 ghost use Rattle.std.specs.Prelude.{ℕ, suc, ◌≤◌, ◌<◌, length};
 ghost use Rattle.graph.specs.Columns.{at};
-ghost use Rattle.search.specs.inner.Program.{program_of, RightProgram, Owes, Fillable, Solves};
+ghost use Rattle.search.specs.inner.Program.{program_of, RightProgram, Owes, Fillable, Solves, SolvesLists};
 
 use crate::numbers::number_cells;
 use crate::renumber::{renumber_cells, renumber_dues, renumber_fill};
-use search::{Choice, search};
+use search::{Choice, search_lists};
 
 // Cells, of 512 nodes at 24 clocks each; their operands, of 1,024 edges at 24 clocks each; and of small searches.
 const CELLS: usize = 12288;
@@ -46,7 +46,7 @@ fn solve_few<'a>(
     requires owes { Owes cells due.old begin.now edges }
     requires fillable { Fillable cells k fill.old }
     requires cells_bound { (cells ≤ 512) × ((i : ℕ) → i < cells → at first.now (suc i) ≤ 2048) }
-    ensures { Solves k (program_of kind.now first.now operand.now)
+    ensures { SolvesLists k (program_of kind.now first.now operand.now)
         due.old (at begin.now edges) fill.old result.found result.choice }
 {
     let total = begin[edges] as usize;
@@ -69,7 +69,7 @@ fn solve_few<'a>(
         &mut firsts,
         &mut operands,
     );
-    search(
+    search_lists(
         &kinds, &firsts, &operands, levels, k, due, begin, edges, fill,
     )
 }
@@ -90,7 +90,7 @@ fn solve_many<'a>(
     requires owes { Owes cells due.old begin.now edges }
     requires fillable { Fillable cells k fill.old }
     requires by_index { (i : ℕ) → i < cells → at first.now (suc i) ≤ 24576 }
-    ensures { Solves k (program_of kind.now first.now operand.now)
+    ensures { SolvesLists k (program_of kind.now first.now operand.now)
         due.old (at begin.now edges) fill.old result.found result.choice }
 {
     let total = begin[edges] as usize;
@@ -113,14 +113,14 @@ fn solve_many<'a>(
         &mut firsts,
         &mut operands,
     );
-    search(
+    search_lists(
         &kinds, &firsts, &operands, levels, k, due, begin, edges, fill,
     )
 }
 
 // The best list: fillings, each the value of its cell in `fill`, then a choice of k bits under which every cell gives what is due of it.
 // The dues and `fill` are left with other numbers of cells.
-pub fn solve<'a>(
+pub fn solve_lists<'a>(
     kind: &'a [u8],
     first: &'a [u16],
     operand: &'a [u16],
@@ -134,11 +134,31 @@ pub fn solve<'a>(
     requires right_program { RightProgram cells k (program_of kind.now first.now operand.now) }
     requires owes { Owes cells due.old begin.now edges × (length operand.now ≤ 24576) }
     requires fillable { Fillable cells k fill.old }
-    ensures { Solves k (program_of kind.now first.now operand.now)
+    ensures { SolvesLists k (program_of kind.now first.now operand.now)
         due.old (at begin.now edges) fill.old result.found result.choice }
 {
     if cells <= 512 && first[cells] <= 2048 {
         return solve_few(kind, first, operand, cells, k, due, begin, edges, fill);
     }
     solve_many(kind, first, operand, cells, k, due, begin, edges, fill)
+}
+
+// The best choice of k bits under which every cell gives what is due of it: nothing is filled. The dues are left with other numbers of cells.
+pub fn solve<'a>(
+    kind: &'a [u8],
+    first: &'a [u16],
+    operand: &'a [u16],
+    cells: usize,
+    k: u32,
+    due: &mut [u16],
+    begin: &'a [u16],
+    edges: usize,
+) -> Choice
+    requires right_program { RightProgram cells k (program_of kind.now first.now operand.now) }
+    requires owes { Owes cells due.old begin.now edges × (length operand.now ≤ 24576) }
+    ensures { Solves k (program_of kind.now first.now operand.now)
+        due.old (at begin.now edges) result.found result.choice }
+{
+    let mut fill = [0u16; 0];
+    solve_lists(kind, first, operand, cells, k, due, begin, edges, &mut fill)
 }

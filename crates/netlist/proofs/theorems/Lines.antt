@@ -3,7 +3,7 @@
 --   cut_clean           and these are all of it, where its other rows are 0
 --   fault_lines         a text with a fault is refused so
 --   lines_fact, fault_fact, fault_place
-use Prim.Native.Nat.{ℕ, suc, ◌+◌, ◌-◌, ◌<◌}
+use Prim.Native.Nat.{ℕ, suc, ◌-◌, ◌<◌}
 use native.Mathlib.Omega.{arith}
 use mathlib.Core.Path.{◌≡◌, refl, sym, ap, ◌∙◌, subst, subst₂}
 use mathlib.Core.List.{List, [], ◌∷◌, ◌++◌, append-nil}

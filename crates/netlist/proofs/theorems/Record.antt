@@ -3,7 +3,7 @@
 --   head_breaks, node_breaks, edge_breaks    the first line that breaks its rule has that fault
 --   cut_same            the rows that are read back are the netlist's
 --   record_faults, record_fact, record_judged
-use Prim.Native.Nat.{ℕ, ◌+◌, ◌<◌}
+use Prim.Native.Nat.{ℕ, ◌<◌}
 use native.Mathlib.Omega.{arith}
 use mathlib.Core.Path.{◌≡◌, refl, sym, ap, ◌∙◌, subst, subst₂}
 use mathlib.Core.Logic.{◌⊎◌, ⊎_elim}

@@ -12,7 +12,8 @@
 --   Fillable            the column `fill` asks for cells, and a list has at most 24 bits
 --   FillsTo             a list gives each filling that is asked for the value of its cell
 --   Fulfils             so, and under its choice every cell gives what is due of it
---   Solves              the best list that fulfils, or that none does
+--   Solves              the best choice under which every cell gives what is due of it, or that there is none
+--   SolvesLists         the best list that fulfils, or that none does
 --   Levelled            cells are in rising order of the leading bits that they depend on; those of level m, which see no bit from m on, begin at levels(m)
 use Rattle.std.specs.Prelude.{◌≡◌, Bool, true, false, cond, ◌⊎◌, List, [], ◌∷◌, ◌++◌, map, ℕ, zero, suc, ◌+◌, ◌-◌, ◌^◌, ◌/◌, ◌%◌, ◌<◌, ◌≤◌, ltb, length}
 use Rattle.theory.specs.Gate.{gate}
@@ -79,11 +80,16 @@ FillsTo k P fill c = (x : ℕ) → x < length fill → (at fill x ≡ 0) ⊎ (di
 abbrev pub Fulfils : ℕ → Program → List ℕ → ℕ → List ℕ → ℕ → Type 0
 Fulfils k P due total fill c = GivesDues k P due total (c % 2 ^ k) × FillsTo k P fill c
 
+-- found: c is the best choice; else there is none.
+abbrev pub Solves : ℕ → Program → List ℕ → ℕ → Bool → ℕ → Type 0
+Solves k P due total true c = (c < 2 ^ k) × GivesDues k P due total c × ((d : ℕ) → Prefers d c → ¬ GivesDues k P due total d)
+Solves k P due total false c = (d : ℕ) → d < 2 ^ k → ¬ GivesDues k P due total d
+
 -- found: c is the best list that fulfils; else there is none.
-abbrev pub Solves : ℕ → Program → List ℕ → ℕ → List ℕ → Bool → ℕ → Type 0
-Solves k P due total fill true c =
+abbrev pub SolvesLists : ℕ → Program → List ℕ → ℕ → List ℕ → Bool → ℕ → Type 0
+SolvesLists k P due total fill true c =
     (c < 2 ^ (length fill + k)) × Fulfils k P due total fill c × ((d : ℕ) → d < 2 ^ (length fill + k) → Prefers d c → ¬ Fulfils k P due total fill d)
-Solves k P due total fill false c = (d : ℕ) → d < 2 ^ (length fill + k) → ¬ Fulfils k P due total fill d
+SolvesLists k P due total fill false c = (d : ℕ) → d < 2 ^ (length fill + k) → ¬ Fulfils k P due total fill d
 
 pub record Levelled (cells k : ℕ) (P : Program) (levels : List ℕ) : Type 0 where
   pub rows : suc k < length levels

@@ -1,9 +1,9 @@
--- `solve::solve` meets its contract: both ways do.
-use Rattle.std.proofs.Common.{suc, arith}
-use Rattle.search.proofs.Putting.{climb}
+-- `solve::solve` meets its contract: nothing is filled, so a list is a choice.
+use Rattle.search.proofs.Solved.{none_fillable, solves_choice}
 use Rattle.solve.proofs.solve.Goals as goal
 
-pub solve_few-requires-clause-cells_bound : goal.solve_few-requires-clause-cells_bound
-solve_few-requires-clause-cells_bound c =
-    let up = climb c.args.first.now c.args.cells c.requires.right_program.rising in
-    (omega arith, λ i h. omega (arith, up (suc i) c.args.cells h (omega arith)))
+pub solve_lists-requires-clause-fillable : goal.solve_lists-requires-clause-fillable
+solve_lists-requires-clause-fillable c = none_fillable c.requires.right_program
+
+pub returns : goal.returns
+returns c = solves_choice _ _ _ _ c.solve_lists.result.found c.solve_lists.result.choice c.solve_lists.ensures

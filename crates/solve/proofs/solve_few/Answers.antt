@@ -22,8 +22,8 @@ number_cells-levels-requires c =
       none = λ i h. get_or-replicate {A = ℕ} 512 i 12288 0 (omega arith);
     }
 
-pub search-requires : goal.search-requires
-search-requires c =
+pub search_lists-requires : goal.search_lists-requires
+search_lists-requires c =
     let f = c.requires.right_program in
     let rows : c.args.cells ≤ 512 = c.requires.cells_bound.0 in
     let fits : (i : ℕ) → i < c.args.cells → at c.args.first.now (suc i) ≤ length c.renumber_cells.new.operands =
@@ -39,4 +39,4 @@ returns c =
     let fits : (i : ℕ) → i < c.args.cells → at c.args.first.now (suc i) ≤ length c.renumber_cells.new.operands =
     λ i h. omega (arith, c.renumber_cells.auto.operands, length-replicate {A = ℕ} 2048 0, c.requires.cells_bound.1 i h) in
     solves_old c.requires.right_program c.number_cells-levels.ensures c.renumber_cells.ensures fits c.renumber_dues.new.due c.requires.owes c.renumber_dues.ensures
-    c.renumber_fill.new.fill c.requires.fillable c.renumber_fill.ensures c.renumber_fill.auto.fill c.search.result.found c.search.result.choice c.search.ensures
+    c.renumber_fill.new.fill c.requires.fillable c.renumber_fill.ensures c.renumber_fill.auto.fill c.search_lists.result.found c.search_lists.result.choice c.search_lists.ensures

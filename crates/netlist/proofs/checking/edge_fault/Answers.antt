@@ -1,4 +1,4 @@
-use Rattle.std.proofs.Common.{◌<◌, ◌≤◌, arith, sym, ◌∙◌}
+use Rattle.std.proofs.Common.{arith, sym, ◌∙◌}
 use Rattle.netlist.specs.Theorems.{bad_edge}
 use Rattle.netlist.proofs.Run.{fit_rows}
 use Rattle.netlist.proofs.Typed.{typed_record}

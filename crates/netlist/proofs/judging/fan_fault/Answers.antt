@@ -1,4 +1,4 @@
-use Rattle.std.proofs.Common.{◌<◌, ◌≤◌, arith, rules, below_more}
+use Rattle.std.proofs.Common.{arith, rules, below_more}
 use Rattle.netlist.specs.Net.{graph_of}
 use Rattle.netlist.proofs.Run.{fit_rows}
 use Rattle.netlist.proofs.Lowest.{laid, fan_test, told_yes, told_no, sought_lowest}

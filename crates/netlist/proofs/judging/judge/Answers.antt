@@ -1,5 +1,5 @@
 -- `netlist::judging::judge` meets its contract: rule 5, then 6, then 7.
-use Rattle.std.proofs.Common.{◌≤◌, arith, rules, refl}
+use Rattle.std.proofs.Common.{arith, rules, refl}
 use Rattle.netlist.specs.Order.{here, past}
 use Rattle.netlist.proofs.Run.{fit_rows}
 use Rattle.netlist.proofs.Lowest.{laid, told_yes, told_no}

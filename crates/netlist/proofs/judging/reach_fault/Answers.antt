@@ -1,6 +1,5 @@
 use Rattle.std.proofs.Common.{◌≡◌, ℕ, ◌<◌, ◌≤◌, arith, rules}
 use lib.Dec.{eqb}
-use Rattle.theory.specs.Graph.{Graph}
 use Rattle.graph.specs.Columns.{at}
 use Rattle.graph.specs.Layers.{Told}
 use Rattle.graph.specs.inner.Laid.{reverse, From}

@@ -1,5 +1,5 @@
 -- `search::choices::jump` meets its contract: the bits by `advance`, their number by `next_after`.
-use Rattle.std.proofs.Common.{◌-◌, ◌^◌, ◌≤◌, arith}
+use Rattle.std.proofs.Common.{◌^◌, ◌≤◌, arith}
 use lib.Pow.{pow_mono}
 use Rattle.search.proofs.choices.jump.Goals as goal
 
