@@ -48,13 +48,13 @@ def batch_run() -> tuple[bytes, bytes]:
     for name, cases in reading.reading_cases(SEED).items():
         given += [job(0, case.text) for case in cases]
         printed += told("reread", name, [reading.expected(case) for case in cases])
-    for name, cases in with_earlier(retiming.retiming_cases).items():
+    for name, cases in with_earlier(retiming.retiming_cases, retiming.expected).items():
         given += [job(7, case.text) for case in cases]
         printed += told("list", name, [retiming.expected(case) for case in cases])
     for name, cases in running.running_cases(SEED).items():
         given += [job(8, case.text, case.vectors, case.room) for case in cases]
         printed += told("run", name, [running.expected(case) for case in cases])
-    for name, cases in with_earlier(quoting.quoting_cases).items():
+    for name, cases in with_earlier(quoting.quoting_cases, quoting.expected).items():
         given += [job(9, case.text) for case in cases]
         printed += told("quote", name, [quoting.expected(case) for case in cases])
     for name, cases in rails.rails_cases(SEED).items():
@@ -66,9 +66,9 @@ def batch_run() -> tuple[bytes, bytes]:
     return b"".join(given), b"".join(printed)
 
 
-def with_earlier(draw: Callable[[int], dict[str, list[Any]]]) -> dict[str, list[Any]]:
+def with_earlier(draw: Callable[[int], dict[str, list[Any]]], expected: Callable[[Any], bytes]) -> dict[str, list[Any]]:
     """What is drawn, and what was drawn when a half of a delay went upward."""
-    return {**draw(SEED), "drawn with halves upward": drawn_upward(draw, SEED)}
+    return {**draw(SEED), "drawn with halves upward": drawn_upward(draw, expected, SEED)}
 
 
 def job(kind: int, text: bytes, vectors: bytes = b"", room: int = 0) -> bytes:

@@ -16,7 +16,7 @@ from typing import Any
 import quoting_cases
 import retiming
 import retiming_cases
-from reference import Node, Refusal, read_lines
+from reference import Node
 
 
 def upward(node: Node, derate: int) -> int:
@@ -32,27 +32,18 @@ def upward(node: Node, derate: int) -> int:
 def halves_upward() -> Iterator[None]:
     """The draws and the reference that they ask round upward within."""
     modules = (retiming, retiming_cases, quoting_cases)
-    today = retiming.working_delay
+    today = [module.working_delay for module in modules]
     for module in modules:
         setattr(module, "working_delay", upward)
     try:
         yield
     finally:
-        for module in modules:
-            setattr(module, "working_delay", today)
+        for module, one in zip(modules, today):
+            setattr(module, "working_delay", one)
 
 
-def rounds_alike(text: bytes) -> bool:
-    """Whether no delay of the text is another today; so a claim of then is one of today."""
-    try:
-        net = read_lines(text)
-    except Refusal:
-        return True
-    return all(upward(node, net.derate) == retiming.working_delay(node, net.derate) for node in net.nodes)
-
-
-def drawn_upward(draw: Callable[[int], dict[str, list[Any]]], seed: int) -> list[Any]:
-    """The cases that this draw gave and gives no more, in their order; of a claim what still can be claimed."""
+def drawn_upward(draw: Callable[[int], dict[str, list[Any]]], expected: Callable[[Any], bytes], seed: int) -> list[Any]:
+    """The cases that this draw gave and gives no more, in their order. A claim stays where the answer did."""
     today = Counter(case.text for cases in draw(seed).values() for case in cases)
     with halves_upward():
         then = [case for cases in draw(seed).values() for case in cases]
@@ -61,5 +52,12 @@ def drawn_upward(draw: Callable[[int], dict[str, list[Any]]], seed: int) -> list
         if today[case.text]:
             today[case.text] -= 1
         else:
-            left.append(case if rounds_alike(case.text) else replace(case, claim=None))
+            left.append(case if case.claim is None or stands(case, expected) else replace(case, claim=None))
     return left
+
+
+def stands(case: Any, expected: Callable[[Any], bytes]) -> bool:
+    """Whether the answer is what it was, when the claim was tried."""
+    with halves_upward():
+        then = expected(case)
+    return expected(replace(case, claim=None)) == then

@@ -1,9 +1,10 @@
 #!/usr/bin/env python3
 """Brings the repository's own definitions, fields, constructors and lemmas to the kit's spelling, words in snake case: python3 tools/port_names.py [--list] [FOLDER]
 
-atLine is at_line, few-cells is few_cells. Types, modules, functions of src/, strings, names of the kit and the names that a check gives its goals keep
-their spelling; in the comments of src/ and in pages only what stands between backquotes is a name. --list prints what would be turned. Files in which two
-words would become one are said, to be looked at: a definition may have the name of a function, a lemma may not have a definition's.
+atLine is at_line, few-cells is few_cells; ten lemmas that would get the name of the definition that they speak of get another word (OTHERS). Types, modules,
+functions of src/, strings, names of the kit and the names that a check gives its goals keep their spelling; in the comments of src/ and in pages only what
+stands between backquotes is a name. --list prints what would be turned. Files in which two words become one are said, to be looked at: a definition may have
+the name of a function, a lemma may not have a definition's. A second run turns nothing.
 """
 
 from __future__ import annotations
@@ -63,6 +64,8 @@ def own_names(root: Path) -> dict[str, str]:
             kept.update(name.strip() for name in (many or one).split(","))
         for names in DECLARED.findall(text):
             own.update(word for name in set(names.split()) - WORDS for word in (name, *re.findall("◌(.+)◌", name)))
+    if "textIn" not in own:
+        kept.add("text_in")  # it is the definition now, and no lemma
     return {name: snake(name) for name in sorted(own - kept) if snake(name) != name}
 
 
