@@ -1,4 +1,5 @@
 // Reading: the lines in turn, each at a cursor, filling the record row by row; then rules 5, 6 and 7.
+// `read` asks for nothing. The others are private to the crate: they are handed a table of digits and a record within the limits.
 ghost use Rattle.std.specs.Prelude.{◌≡◌, ◌+◌, ◌*◌, ◌≤◌, ◌<◌, get_or, drop};
 ghost use Rattle.frame.specs.inner.Decoded.{Digits};
 ghost use Rattle.netlist.specs.Answer.{says};

@@ -1,6 +1,6 @@
--- The order of preference. `prefers_one` and `prefers_well` are all that is used of it outside the search, so another order needs them and no more.
+-- The order of preference. Retiming uses `prefers_one` and `prefers_well` of it and, outside the search, no more, so another order needs them.
 --   prefers_one         of two different numbers one is preferred
---   prefers_below       a number that is preferred to one of few bits has no more bits: of this order alone, for `best_every`
+--   prefers_below       a number that is preferred to one of few bits has no more bits: of this order alone, so that numbers of more bits need not be looked at
 --   prefers_well        of the numbers below n with a property there is one to which none of them is preferred, or none has it
 --   prefers?, prefers_test     a test, which the cards compute
 use Prim.Native.Nat.{ℕ, ◌<◌}
