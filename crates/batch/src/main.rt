@@ -14,167 +14,135 @@
 // All ends with the input, at a line that is no such frame, or after 65,536 jobs. A text or vectors that the input cuts short are taken as they stand.
 #![tactic(auto)]
 
-ghost use Rattle.std.specs.Prelude.{◌<◌};
+use std::io;
+use std::io::{Read, Write};
 
-use netlist::{Answer, Place, Walked};
+// A frame's line: seven bytes as digits, and the line feed.
+const LINE: u16 = 15;
 
-// File descriptors.
-const STDIN: i32 = 0;
+const MOST_JOBS: u32 = 65536;
 
-const STDOUT: i32 = 1;
+// As long as any text, and as all that is printed of one at a time.
+const ROOM: usize = 65536;
 
 // The longest table to count into.
 const MOST_WORDS: usize = 1024;
 
-// The number of two bytes, high byte first.
-fn pair(high: u8, low: u8) -> usize
-    ensures { result < 65536 }
-{
-    (high as usize) * 256 + (low as usize)
-}
-
-// The kind of job that a line stands for; 0 also where it is the frame of none.
-fn kind_of(line: &[u8]) -> u8 {
-    let list = frame::frame_at(line, 0, 7, 6);
-    if list.ok {
-        return 7;
-    }
-    let run = frame::frame_at(line, 0, 8, 6);
-    if run.ok {
-        return 8;
-    }
-    let quote = frame::frame_at(line, 0, 9, 6);
-    if quote.ok {
-        return 9;
-    }
-    let rails = frame::frame_at(line, 0, 10, 6);
-    if rails.ok {
-        return 10;
-    }
-    let walk = frame::frame_at(line, 0, 12, 6);
-    if walk.ok {
-        return 12;
-    }
-    0
-}
-
-fn print_reread(text: &[u8]) {
-    let mut out = io::large_buffer();
-    let n = printing::reread(text, &mut out);
-    io::write_all(STDOUT, &out[..n]);
-}
-
-fn print_listing(text: &[u8]) {
-    let listing = printing::listing(text);
-    let bytes = listing.bytes;
-    io::write_all(STDOUT, &bytes[..listing.len]);
-}
-
-fn print_run(text: &[u8], vectors: &[u8], ran: &mut [u8]) {
-    let mut out = io::large_buffer();
-    let n = printing::put_run(text, vectors, ran, &mut out);
-    io::write_all(STDOUT, &out[..n]);
-}
-
-fn print_quote(text: &[u8]) {
-    let mut out = io::large_buffer();
-    let n = printing::put_quote(text, &mut out);
-    io::write_all(STDOUT, &out[..n]);
-}
-
-fn print_rails(text: &[u8], words: usize) {
-    let mut table = [0u32; MOST_WORDS];
-    let k = if words < MOST_WORDS {
-        words
-    } else {
-        MOST_WORDS
-    };
-    let mut out = io::large_buffer();
-    let n = printing::put_rails(text, &mut table[..k], &mut out);
-    io::write_all(STDOUT, &out[..n]);
-}
-
-// The marks of so many nodes.
-fn print_marks(marks: &[u8], nodes: usize) {
-    let mut out = io::large_buffer();
-    let n = printing::put_bits(marks, nodes, &mut out);
-    io::write_all(STDOUT, &out[..n]);
-}
-
-fn print_refusal(q: u8, p: Place) {
-    let mut out = io::large_buffer();
-    let n = printing::put_refusal(q, p, &mut out);
-    io::write_all(STDOUT, &out[..n]);
-}
-
-// What is printed of a walk that stopped after a pass, and whether that was the last: then it marked nothing. So it is with a refusal.
-fn print_walked(walked: Walked) -> bool {
-    let layer = walked.layer;
-    match walked.answer {
-        Answer::Done(nodes) => print_marks(&layer.marks, nodes),
-        Answer::Refused(q, p) => print_refusal(q, p),
-    }
-    layer.hi <= layer.lo
-}
-
 // No more passes are made than there are nodes.
 const WALKS: usize = 513;
 
-fn print_walk(text: &[u8]) {
-    let mut passes = 0;
-    while passes < WALKS {
-        let last = print_walked(netlist::walk(text, passes));
-        if last {
-            return;
+// What is printed of a text, by the kind of its frame.
+#[derive(Clone, Copy)]
+enum Task {
+    Reread = 0,
+    List = 7,
+    Run = 8,
+    Quote = 9,
+    Rails = 10,
+    Walk = 12,
+}
+
+const TASKS: [Task; 6] = [
+    Task::Reread,
+    Task::List,
+    Task::Run,
+    Task::Quote,
+    Task::Rails,
+    Task::Walk,
+];
+
+// What is done, and how long the text, the vectors and the buffer to run into or the table are.
+#[derive(Clone, Copy)]
+struct Job {
+    task: Task,
+    text: u16,
+    vectors: u16,
+    room: u16,
+}
+
+// The job whose frame the line is.
+fn job_of(line: &[u8]) -> Option<Job> {
+    for task in TASKS {
+        if let Some(bytes) = frame::line_at::<6>(line, 0, task as u8) {
+            let [t1, t0, v1, v0, r1, r0] = bytes;
+            return Some(Job {
+                task,
+                text: u16::from_be_bytes([t1, t0]),
+                vectors: u16::from_be_bytes([v1, v0]),
+                room: u16::from_be_bytes([r1, r0]),
+            });
         }
-        passes += 1;
     }
+    None
 }
 
-// A text and vectors as long as these buffers, taken from the input; what is printed of the job.
-fn take_job(kind: u8, text: &mut [u8], vectors: &mut [u8], ran: &mut [u8]) {
-    let n = io::read_full(STDIN, text);
-    let m = io::read_full(STDIN, vectors);
-    match kind {
-        7 => print_listing(&text[..n]),
-        8 => print_run(&text[..n], &vectors[..m], ran),
-        9 => print_quote(&text[..n]),
-        10 => print_rails(&text[..n], ran.len()),
-        12 => print_walk(&text[..n]),
-        _ => print_reread(&text[..n]),
-    }
+// So many bytes of the input, or as many as are left.
+fn taken<R: Input + AllocGlobal>(rt: &R, most: u16) -> io::Result<Vec<u8>> {
+    let mut bytes = Vec::new(rt.alloc());
+    rt.reader().take(u64::from(most)).read_to_end(&mut bytes)?;
+    Ok(bytes)
 }
 
-// The same, of a text of `n` bytes and `m` vector bytes, run into a buffer of `k` or counted into a table of as many words.
-fn job(kind: u8, n: usize, m: usize, k: usize)
-    requires { (n < 65536) × (m < 65536) × (k < 65536) }
+// Prints what `put` puts at the front of a buffer, of which it says how many bytes that is.
+fn print<R: Print + AllocGlobal, F: Fn(&mut [u8]) -> usize>(rt: &R, put: F) -> io::Result<()>
+    requires { F.IsAlwaysCallable put }
 {
-    let mut text = io::large_buffer();
-    let mut vectors = io::large_buffer();
-    let mut ran = io::large_buffer();
-    take_job(kind, &mut text[..n], &mut vectors[..m], &mut ran[..k]);
+    let mut out = vec![in rt.alloc(); 0; ROOM]?;
+    let len = put(&mut out).min(out.len());
+    io::writer(rt).write_all(&out[..len])
 }
 
-// The next frame and its job; false where there is none.
-fn next() -> bool {
-    let mut line = [0u8; 15];
-    io::read_full(STDIN, &mut line);
-    let kind = kind_of(&line);
-    let head = frame::frame_at(&line, 0, kind, 6);
-    if !head.ok {
-        return false;
-    }
-    let b = head.bytes;
-    job(kind, pair(b[0], b[1]), pair(b[2], b[3]), pair(b[4], b[5]));
-    true
-}
-
-fn main() {
-    let mut jobs: u32 = 0;
-    while jobs < 65536 {
-        if !next() {
-            return;
+// Prints which nodes are marked, before the first pass and after each up to one that marks nothing.
+fn print_walk<R: Print + AllocGlobal>(rt: &R, text: &[u8]) -> io::Result<()> {
+    for passes in 0..WALKS {
+        let walked = match netlist::walk(text, passes) {
+            Ok(walked) => walked,
+            Err(reason) => return print(rt, |out| printing::put_refusal(reason, out)),
+        };
+        let layer = walked.layer;
+        let bits = layer.marks.map(u8::from);
+        let marked = &bits[..walked.nodes.min(bits.len())];
+        print(rt, |out| printing::put_bits(marked, out))?;
+        if layer.hi <= layer.lo {
+            break;
         }
-        jobs += 1;
     }
+    Ok(())
+}
+
+// Takes a job's text and vectors from the input, and prints what it comes to.
+fn print_job<R: Print + Input + AllocGlobal>(rt: &R, job: Job) -> io::Result<()> {
+    let text = taken(rt, job.text)?;
+    let text = &text[..];
+    let vectors = taken(rt, job.vectors)?;
+    let vectors = &vectors[..];
+    match job.task {
+        Task::Reread => print(rt, |out| printing::reread(text, out)),
+        Task::List => {
+            let listing = printing::listing(text);
+            io::writer(rt).write_all(&listing.bytes[..listing.len])
+        }
+        Task::Run => print(rt, |out| {
+            let mut ran = [0; ROOM];
+            printing::put_run(text, vectors, &mut ran[..usize::from(job.room)], out)
+        }),
+        Task::Quote => print(rt, |out| printing::put_quote(text, out)),
+        Task::Rails => print(rt, |out| {
+            let mut table = [0; MOST_WORDS];
+            let words = usize::from(job.room).min(MOST_WORDS);
+            printing::put_rails(text, &mut table[..words], out)
+        }),
+        Task::Walk => print_walk(rt, text),
+    }
+}
+
+fn main(rt: HostRuntime) -> io::Result<()> {
+    for _ in 0..MOST_JOBS {
+        let line = taken(&rt, LINE)?;
+        let Some(job) = job_of(&line) else {
+            break;
+        };
+        print_job(&rt, job)?;
+    }
+    Ok(())
 }

@@ -4,7 +4,7 @@
 use Prim.Native.Nat.{ℕ, ◌+◌, ◌-◌, ◌≤◌}
 use native.Mathlib.Omega.{arith}
 use mathlib.Core.Path.{◌≡◌, sym, ap, ap₂, ◌∙◌}
-use mathlib.Core.Bool.{Bool, true, false}
+use Rattle.std.proofs.Common.{Some}
 use mathlib.Core.List.{List}
 use Rattle.theory.specs.Move.{digit}
 use Rattle.theory.proofs.numbers.Sums.{sum_more, sum_grows}
@@ -33,6 +33,5 @@ module _ {net : Netlist} {lab counts base : List ℕ} {k : ℕ} (ch : Choosing n
       ∙ ap₂ (λ n b. word_of (λ t. digit n c (b + t)) (at base (e + 1) - at base e)) (size ch) (ch.based e (omega arith))
       ∙ ap (word_of (choice_at net (lags_of lab) c e)) (let z : at base (e + 1) - at base e ≡ chosen_at net lab e = omega (arith, base_step e (omega arith)) in z)
 
-  pub chosen : (found : Bool) (c : ℕ) (words : List ℕ) → Chooses net (lags_of lab) found c → RunWords c k base net.edges words → Chosen net (lags_of lab) found words
-  chosen true c words b w = record { number = c; best = b; its_words = run_words c words w }
-  chosen false c words n w = n
+  pub chosen : (c : ℕ) (words : List ℕ) → Chooses net (lags_of lab) (Some c) → RunWords c k base net.edges words → Chosen net (lags_of lab) (Some words)
+  chosen c words b w = record { number = c; best = b; its_words = run_words c words w }

@@ -8,7 +8,7 @@
 use Prim.Native.Nat.{ℕ, ◌+◌, ◌-◌, ◌^◌, ◌/◌, ◌%◌, ◌<◌, ◌≤◌}
 use native.Mathlib.Omega.{arith}
 use mathlib.Core.Path.{◌≡◌, sym, ap, ap₂, ◌∙◌, subst}
-use mathlib.Core.Bool.{Bool, true, false}
+use Rattle.std.proofs.Common.{Option, Some, None}
 use mathlib.Core.Logic.{⊎_elim, ◌↔◌}
 use mathlib.Core.List.{List, map}
 use borrow.Author.Tests.{lt-ltb, le-ltb}
@@ -161,12 +161,12 @@ module _ (net : Netlist) (ok : SoundIn net) (r : ℕ → ℤ) (legal : LegalAt n
     {k cells rows : ℕ} {kind first operand due begin : List ℕ} (size : k ≡ chosen_in_at net r)
     (s : Standing net r k cells rows kind first operand due begin) where
   -- A choice of bits is, where it is looked at, a number below 2 ^ k (`choice_number`).
-  pub solved : (found : Bool) (c : ℕ) → Solves k (program_of kind first operand) due (at begin rows) found c → Chooses net r found c
-  solved true c a = record {
+  pub solved : (found : Option ℕ) → Solves k (program_of kind first operand) due (at begin rows) found → Chooses net r found
+  solved (Some c) a = record {
     small = subst (λ n. c < 2 ^ n) size a.0;
     carried = (s.holds c).0 a.1;
     first = λ d h p carried. a.2 d p ((s.holds d).1 carried);
   }
-  solved false c a = λ choice bits carried.
+  solved None a = λ choice bits carried.
       let n = choice_number gate (graph_of net) ok.wired (regs_of net) ok.no_loop r legal choice (λ e t he ht. bits e t) carried in
       a n.0 (subst (λ m. n.0 < 2 ^ m) (sym size) n.1) ((s.holds n.0).1 n.2)

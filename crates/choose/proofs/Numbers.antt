@@ -1,5 +1,5 @@
 -- The cells, numbered one by one.
---   lags_more           no lag is above so many clocks, one node further
+--   lags_cut            no lag of the labels of the nodes, cut out of a longer list, is above so many clocks
 --   numbered_none       no cell yet
 --   numbered_miss, numbered_hit    one place further: without a cell, with a cell
 --   numbered_clock      a clock is done
@@ -10,15 +10,20 @@ use native.Mathlib.Decide.{ℕ_discrete}
 use mathlib.Core.Path.{◌≡◌, refl, sym, subst, ap, ◌∙◌}
 use mathlib.Core.Logic.{◌⊎◌, inl, inr, ⊎_elim}
 use mathlib.Core.List.{List}
-use borrow.Author.Count.{below_more}
-use lib.ListN.{length, set, length-set}
-use lib.Seq.{get_or-set_same, get_or-set_other}
+use lib.ListN.{length, take, set, length-set}
+use lib.Seq.{get_or-take, get_or-set_same, get_or-set_other}
+use Rattle.std.proofs.lemmas.List.{length-take-le}
+use Rattle.theory.specs.Lag.{up}
+use Rattle.lags.specs.inner.Lags.{lag_of}
 use Rattle.graph.specs.Columns.{at}
 use Rattle.graph.specs.inner.Sort.{Stands}
-use Rattle.choose.specs.inner.Numbers.{lag_at, LagsBelow, Arranged, EarlierCell, CellNumbered, CellsNumbered}
+use Rattle.choose.specs.inner.Numbers.{LagsBelow, Arranged, EarlierCell, CellNumbered, CellsNumbered}
 
-pub lags_more : {lab : List ℕ} {v top new : ℕ} → LagsBelow lab v top → top ≤ new → new ≤ 24 → lag_at lab v ≤ new → LagsBelow lab (v + 1) new
-lags_more s up few here = record { few = few; low = below_more _ _ (λ u h. omega (arith, s.low u h)) here }
+pub lags_cut : {lab : List ℕ} {nodes clocks : ℕ} → nodes ≤ length lab → LagsBelow (take nodes lab) (length (take nodes lab)) clocks → LagsBelow lab nodes clocks
+lags_cut {lab = lab} {nodes = nodes} {clocks = clocks} h s = record {
+  few = s.few;
+  low = λ v l. subst (λ x. up (lag_of x) ≤ clocks) (get_or-take nodes lab v 0 l) (s.low v (rw (length-take-le nodes lab h) l));
+}
 
 module _ (lag : ℕ → ℕ) (order : List ℕ) (nodes : ℕ) where
   pub numbered_none : (id code : List ℕ) → length id ≡ 16384 → length code ≡ 12288 → CellsNumbered lag order nodes 0 0 0 id code

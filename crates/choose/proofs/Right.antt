@@ -4,14 +4,14 @@
 --   arranged, okay_all  the order has each node once; each node has its cells: what `number_cells` and `dues_of` ask for
 --   ready, wirable      every cell's operands can be read: what `operands_of` and `wire` ask for
 --   standing            the columns are a right program, and what is due of it is what has to be carried: what `solve` asks for
---   stands, chooses     what `compile` leaves, over k bits; what `solve` says of it is retiming's
+--   chooses             what `solve` says of what `compile` leaves is retiming's
 --   chosen_none         where nothing is chosen, nothing is to be carried
 use Prim.Native.Nat.{ℕ, suc, ◌+◌, ◌*◌, ◌-◌, ◌/◌, ◌%◌, ◌≤◌, ◌<◌}
 use native.Mathlib.Omega.{arith}
 use native.Mathlib.Numerals.{add-one}
 use native.Mathlib.Decide.{ℕ_discrete, dec_lt}
 use mathlib.Core.Path.{◌≡◌, sym, subst, ap, ◌∙◌}
-use mathlib.Core.Bool.{Bool, true}
+use Rattle.std.proofs.Common.{Option, Some}
 use mathlib.Core.Logic.{◌⊎◌, inl, inr}
 use mathlib.Core.List.{List}
 use borrow.Author.Tests.{lt-ltb, le-ltb}
@@ -121,7 +121,7 @@ module _ {net : Netlist} {lab counts base : List ℕ} {k : ℕ} (ch : Choosing n
             inr ((let y : at code i % 32 - at counts e ≡ (n.each i h).clock = omega (arith, clock_of i h) in y), o.sources_first (n.each i h).place e (n.each i h).within he (q ∙ node_of i h) z)
         go (no z) = inl (let y : at code i % 32 - at counts e < (n.each i h).clock = omega (arith, clock_of i h) in y)
 
-    module _ (from_rows : net.edges ≤ length net.from) {ins begin : List ℕ} (g : Entering net ins begin) where
+    module _ {ins begin : List ℕ} (g : Entering net ins begin) where
       by_node : ByNode net.to net.nodes net.edges ins begin
       by_node = sorts_by_node net.to net.nodes net.edges (fit_wired net m.labelled.fit).dst_in g.room g.sorts
 
@@ -130,7 +130,7 @@ module _ {net : Netlist} {lab counts base : List ℕ} {k : ℕ} (ch : Choosing n
 
       pub ready : (i : ℕ) → i < cells → OperandRows net.from ins begin counts base id code i
       ready i h = record {
-        row = omega (arith, node_low i h, low_nodes net lab m.labelled, g.begin_rows);
+        row = omega (arith, node_low i h, low_nodes net lab m.labelled);
         rises = by_node.up (at code i / 32) (node_low i h);
         in_rows = omega (arith, by_node.within (at code i / 32) (node_low i h), g.ins_rows);
         shows = λ j u l. let p = place_edge i j h l u in shown (at ins j) p.0 p.1;
@@ -138,7 +138,7 @@ module _ {net : Netlist} {lab counts base : List ℕ} {k : ℕ} (ch : Choosing n
         where
           shown : (e : ℕ) → e < net.edges → at net.to e ≡ at code i / 32 → SourceRows net.from counts base id (at code i % 32) e
           shown e he q = record {
-            from_row = omega arith;
+            from_row = omega (arith, low_edges net lab m.labelled);
             count_row = omega (arith, m.count_rows);
             base_row = omega (arith, ch.base_rows);
             low = omega (arith, base_low e he, ch.few);
@@ -206,27 +206,23 @@ module _ {net : Netlist} {lab counts base : List ℕ} {k : ℕ} (ch : Choosing n
           holds = compiled_holds net m.sound (lags_of lab) m.labelled.legal made size right;
         }
 
-    pub wirable : net.edges ≤ length net.from → Wirable net counts base id code cells
-    wirable from_rows = record {
+    pub wirable : Wirable net counts base id code cells
+    wirable = record {
       nodes_few = low_nodes net lab m.labelled;
       edges_few = low_edges net lab m.labelled;
       cells_few = few_cells;
-      ready = λ ins begin g. ready from_rows g;
-      room = λ ins begin g. few_places from_rows g;
+      ready = λ ins begin g. ready g;
+      room = λ ins begin g. few_places g;
     }
 
   -- ── The answer ────────────────────────────────────────────────────────────────────────────
 
-  pub stands : {cells rows : ℕ} {kind first operand due begin : List ℕ} → Standing net (lags_of lab) (at base net.edges) cells rows kind first operand due begin
-      → Standing net (lags_of lab) k cells rows kind first operand due begin
-  stands s = rw ch.chosen s
-
   pub chooses : {cells rows : ℕ} {kind first operand due begin : List ℕ} → Standing net (lags_of lab) k cells rows kind first operand due begin
-      → (found : Bool) (c : ℕ) → Solves k (program_of kind first operand) due (at begin rows) found c → Chooses net (lags_of lab) found c
+      → (found : Option ℕ) → Solves k (program_of kind first operand) due (at begin rows) found → Chooses net (lags_of lab) found
   chooses s = solved net m.sound (lags_of lab) m.labelled.legal size s
 
   -- No lag is positive then, so no old value is to be carried.
-  pub chosen_none : k ≡ 0 → Chooses net (lags_of lab) true 0
+  pub chosen_none : k ≡ 0 → Chooses net (lags_of lab) (Some 0)
   chosen_none z =
       best_none gate (graph_of net) (regs_of net) (lags_of lab) (sym size ∙ z)
       (λ c e s t he hs p. absurd (let y : ⊥ = omega (arith, size, lag_chosen (graph_of net) (regs_of net).count (lags_of lab) m.labelled.legal m.sure.fed (at net.from e) (from_node net lab m.labelled e he)) in y))

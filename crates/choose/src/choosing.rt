@@ -8,152 +8,119 @@ ghost use Rattle.choose.specs.inner.Numbers.{LagsBelow};
 ghost use Rattle.choose.specs.inner.Wires.{Chooses, Wirable, Wires, Standing};
 ghost use Rattle.choose.specs.inner.Chosen.{Chosen};
 
-use crate::cells::{number_cells, operands_of, order_of, put_kinds};
-use crate::dues::dues_of;
-use crate::words::words_of;
-use crate::{CELLS, CODES, Choice, DUES, LAGS, OPERANDS, ROWS};
-use graph::{EDGES, NODES, sort_by};
+use crate::cells::{Columns, Numbering, number_cells, operands_of, order_of, put_kinds};
+use crate::dues::{Rows, dues_of};
+use crate::task::Task;
+use crate::words::Choice;
+use crate::{CELLS, CODES, DUES, LAGS, OPERANDS, ROWS};
+use graph::{EDGES, edges_by_node};
 use lags::up_of;
 use netlist::Netlist;
+use search::Program;
 use solve::solve;
 
 // The operands of the cells: those of a cell are the edges that enter its node, in the order of the edges.
-fn wire(
-    net: Netlist,
-    counts: &[u32],
-    base: &[u32],
-    id: &[u16],
-    code: &[u16],
-    cells: usize,
-    first: &mut [u16],
-    operand: &mut [u16],
-)
-    requires wirable { Wirable net counts.now base.now id.now code.now cells }
-    requires id_len { (length id.now ≡ 16384) × (length code.now ≡ 12288) × (length first.old ≡ 12289) × (length operand.old ≡ 24576) }
-    ensures { Wires net counts.now base.now id.now code.now cells first.new operand.new }
+fn wire(task: &Task<'_>, of: &Numbering, to: &mut Columns)
+    requires wirable { Wirable task.now.net.now task.now.counts.now task.now.base.now of.now.id of.now.code of.now.cells }
+    ensures wires { Wires task.now.net.now task.now.counts.now task.now.base.now of.now.id of.now.code of.now.cells to.new.first to.new.operand }
+    ensures kind { to.new.kind ≡ to.old.kind }
 {
-    let nodes = net.nodes as usize;
-    let edges = net.edges as usize;
-    let mut ins = [0u16; EDGES];
-    let mut begin = [0u16; NODES + 1];
-    sort_by(&net.to, edges, nodes, &mut ins, &mut begin);
-    operands_of(
-        &net.from, &ins, &begin, counts, base, id, code, cells, first, operand,
-    );
+    let net = task.net;
+    let ins = edges_by_node(&net.to, net.nodes as usize, net.edges as usize);
+    operands_of(task, &ins, of, to);
 }
 
-// How many cells a program has, and how many rows its dues.
-#[derive(Clone, Copy)]
-struct Compiled {
-    cells: usize,
-    rows: usize,
-}
-
-// The program of the moved netlist, over as many bits as `base` ends with, and what is due of its cells. How many cells there are, and how many rows of dues.
+// The program of the moved netlist, over as many bits as are chosen, and what is due of its cells. How many cells there are.
 fn compile(
-    net: Netlist,
-    lab: &[u32],
-    counts: &[u32],
-    base: &[u32],
+    task: &Task<'_>,
     clocks: usize,
-    kind: &mut [u8],
-    first: &mut [u16],
-    operand: &mut [u16],
-    due: &mut [u16],
-    begin: &mut [u16],
-) -> Compiled
-    requires choosing { Choosing net lab.now counts.now base.now (at base.now net.edges) × LagsBelow lab.now net.nodes clocks }
-    requires kind_len { (length kind.old ≡ 12288) × (length first.old ≡ 12289) × (length operand.old ≡ 24576) × (length due.old ≡ 24576) × (length begin.old ≡ 5121) }
-    ensures { Standing net (lags_of lab.now) (at base.now net.edges) result.cells result.rows kind.new first.new operand.new due.new begin.new }
+    to: &mut Columns,
+    due: &mut [u16; DUES],
+    rows: &mut Rows,
+) -> usize
+    requires { Choosing task.now.net.now task.now.lab.now task.now.counts.now task.now.base.now task.now.k × LagsBelow task.now.lab.now task.now.net.now.nodes clocks }
+    ensures { Standing task.now.net.now (lags_of task.now.lab.now) task.now.k result rows.new.count to.new.kind to.new.first to.new.operand due.new rows.new.begin }
 {
-    let order = order_of(net, lab, counts);
-    let mut id = [0u16; CODES];
-    let mut code = [0u16; CELLS];
-    let cells = number_cells(&order, lab, net.nodes as usize, clocks, &mut id, &mut code);
-    put_kinds(&net.kind, &code, cells, kind);
-    wire(net, counts, base, &id, &code, cells, first, operand);
-    let rows = dues_of(net, lab, &order, &id, due, begin);
-    Compiled { cells, rows }
+    let net = task.net;
+    let order = order_of(task);
+    let mut numbers = Numbering {
+        id: [0; CODES],
+        code: [0; CELLS],
+        cells: 0,
+    };
+    number_cells(&order, task.lab, net.nodes as usize, clocks, &mut numbers);
+    put_kinds(&net.kind, &numbers, to);
+    wire(task, &numbers, to);
+    dues_of(task, &order, &numbers.id, due, rows);
+    numbers.cells
 }
 
 // The best choice that carries the start, or that none does. No lag is above `clocks`.
-fn searched(
-    net: Netlist,
-    lab: &[u32],
-    counts: &[u32],
-    base: &[u32],
-    k: u32,
-    clocks: usize,
-) -> search::Choice
-    requires { Choosing net lab.now counts.now base.now k × LagsBelow lab.now net.nodes clocks }
-    ensures { Chooses net (lags_of lab.now) result.found result.choice }
+fn searched(task: &Task<'_>, clocks: usize) -> Option<u32>
+    requires { Choosing task.now.net.now task.now.lab.now task.now.counts.now task.now.base.now task.now.k × LagsBelow task.now.lab.now task.now.net.now.nodes clocks }
+    ensures { Chooses task.now.net.now (lags_of task.now.lab.now) result }
 {
-    let mut kind = [0u8; CELLS];
-    let mut first = [0u16; CELLS + 1];
-    let mut operand = [0u16; OPERANDS];
-    let mut due = [0u16; DUES];
-    let mut begin = [0u16; ROWS + 1];
-    let made = compile(
-        net,
-        lab,
-        counts,
-        base,
-        clocks,
-        &mut kind,
-        &mut first,
-        &mut operand,
-        &mut due,
-        &mut begin,
-    );
-    let cells = made.cells;
-    let rows = made.rows;
-    solve(&kind, &first, &operand, cells, k, &mut due, &begin, rows)
+    let mut program = Columns {
+        kind: [0; CELLS],
+        first: [0; CELLS + 1],
+        operand: [0; OPERANDS],
+    };
+    let mut due = [0; DUES];
+    let mut rows = Rows {
+        begin: [0; ROWS + 1],
+        count: 0,
+    };
+    let cells = compile(task, clocks, &mut program, &mut due, &mut rows);
+    let columns = Program {
+        kind: &program.kind,
+        first: &program.first,
+        operand: &program.operand,
+    };
+    solve(columns, cells, task.k, &mut due, &rows.begin, rows.count)
 }
 
 // Whether no lag is above 1: then a cell of the search is a node.
-fn below_two(lab: &[u32], nodes: usize) -> bool
-    requires { nodes ≤ length lab.now }
-    ensures { result ≡ true → LagsBelow lab.now nodes 1 }
+fn below_two(lab: &[u32]) -> bool
+    ensures { result ≡ true → LagsBelow lab.now (length lab.now) 1 }
 {
-    let mut v = 0;
-    while v < nodes {
-        if 1 < up_of(lab[v]) {
-            return false;
-        }
-        v += 1;
-    }
-    true
+    lab.iter().all(|label| up_of(*label) <= 1)
 }
 
 // The best choice that carries the start, or that none does.
 // Where nothing is chosen no lag is positive, so nothing is to be carried, and the empty choice is the only one.
 // The search is called at two places, so that its columns stand in a frame of their own: a frame is touched page by page when its function is entered.
-fn best(net: Netlist, lab: &[u32], counts: &[u32], base: &[u32], k: u32) -> search::Choice
-    requires { Choosing net lab.now counts.now base.now k }
-    ensures { Chooses net (lags_of lab.now) result.found result.choice }
+fn best(task: &Task<'_>) -> Option<u32>
+    requires { Choosing task.now.net.now task.now.lab.now task.now.counts.now task.now.base.now task.now.k }
+    ensures { Chooses task.now.net.now (lags_of task.now.lab.now) result }
 {
-    if k == 0 {
-        return search::Choice {
-            found: true,
-            choice: 0,
-        };
+    if task.k == 0 {
+        return Some(0);
     }
-    if below_two(lab, net.nodes as usize) {
-        return searched(net, lab, counts, base, k, 1);
+    if below_two(&task.lab[..task.net.nodes as usize]) {
+        return searched(task, 1);
     }
-    searched(net, lab, counts, base, k, LAGS)
+    searched(task, LAGS)
 }
 
-// The chosen start values: those of the best choice that carries the start.
-pub fn choose(net: Netlist, lab: &[u32], counts: &[u32], base: &[u32], k: u32) -> Choice
+// The chosen start values of each edge as words, bit t for clock t: those of the best choice that carries the start. None where no choice does.
+pub fn choose(
+    net: Netlist,
+    lab: &[u32],
+    counts: &[u32],
+    base: &[u32],
+    k: u32,
+) -> Option<[u32; EDGES]>
     requires { Choosing net lab.now counts.now base.now k }
-    ensures { Chosen net (lags_of lab.now) result.found result.words }
+    ensures { Chosen net (lags_of lab.now) result }
 {
-    let edges = net.edges as usize;
-    let c = best(net, lab, counts, base, k);
-    let words = words_of(base, edges, k, c.choice);
-    Choice {
-        found: c.found,
-        words,
-    }
+    let task = Task {
+        net: &net,
+        lab,
+        counts,
+        base,
+        k,
+    };
+    let number = best(&task)?;
+    let choice = Choice { number, bits: k };
+    Some(choice.words(base, net.edges as usize))
 }

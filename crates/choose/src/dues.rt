@@ -9,137 +9,138 @@ ghost use Rattle.choose.specs.inner.Numbers.{lag_at, LagsBelow, Arranged};
 ghost use Rattle.graph.specs.inner.Lists.{Appended};
 ghost use Rattle.choose.specs.inner.Dues.{cell_at, Dues, due_at, Celled, DuesTo};
 
-use graph::{EDGES, NODES, edges_along};
+use crate::task::Task;
+use crate::{CODES, DUES, ROWS};
+use graph::{EDGES, NODES, Wires, edges_along};
 use lags::up_of;
-use netlist::Netlist;
 
-// k - r, and 0 where r is larger.
-fn less(k: u32, r: u32) -> u32
-    ensures { result ≡ k - r }
-{
-    if r < k { k - r } else { 0 }
+// The rows of what is due: where each begins, and where the last one ends.
+#[derive(Clone, Copy)]
+pub struct Rows {
+    pub begin: [u16; ROWS + 1],
+    pub count: usize,
+    pub ghost begin_rows: { length begin ≡ 5121 },
 }
 
-// The smaller of two numbers.
-fn least(a: u32, b: u32) -> u32
-    ensures { result ≡ min a b }
-{
-    if a < b { a } else { b }
+// A run of clocks, from `low` up to `high`.
+#[derive(Clone, Copy)]
+struct Run {
+    low: u32,
+    high: u32,
+    ghost rises: { low ≤ high },
+    ghost within: { high ≤ 24 },
 }
 
-// What is due of one edge that leaves node v, of the clocks from `low` up to `high`, put from `start` on. The place after it.
-// "for each edge leaving a node v with positive lag and each old value s of that edge with s at least w − r(v), node v … gives that value at clock s − w + r(v)"
-fn append_dues(
-    v: usize,
+// An edge by the node that it leaves and that node's lag, its registers and their old values.
+#[derive(Clone, Copy)]
+struct Leaving {
+    node: usize,
     lag: u32,
     count: u32,
     values: u32,
-    low: u32,
-    high: u32,
-    id: &[u16],
+    ghost few_nodes: { node < 512 },
+    ghost low_lag: { lag ≤ 24 },
+    ghost narrow: { count ≤ 32 },
+}
+
+// What is due of one edge, of a run of clocks, put from `start` on. The place after it.
+// "for each edge leaving a node v with positive lag and each old value s of that edge with s at least w − r(v), node v … gives that value at clock s − w + r(v)"
+fn append_dues(
+    e: Leaving,
+    run: Run,
+    id: &[u16; CODES],
     start: usize,
-    due: &mut [u16],
+    due: &mut [u16; DUES],
 ) -> usize
-    requires v_bound { (v < 512) × (lag ≤ 24) × (count ≤ 32) × (low ≤ high) × (high ≤ 24) × (length id.now ≡ 16384) × (start + high ≤ length due.old + low) × (length due.old ≡ 24576) }
-    requires by_index { (t : ℕ) → t < lag → cell_at id.now v t < 12288 }
-    ensures value { result ≡ start + (min count (count + high - lag) - (count + low - lag)) }
-    ensures appended { Appended (due_at id.now v lag count values) due.old due.new (count + low - lag) (min count (count + high - lag)) start }
+    requires room { start + run.high ≤ 24576 + run.low }
+    requires by_index { (t : ℕ) → t < e.lag → cell_at id.now e.node t < 12288 }
+    ensures value { result ≡ start + (min e.count (e.count + run.high - e.lag) - (e.count + run.low - e.lag)) }
+    ensures appended { Appended (due_at id.now e.node e.lag e.count e.values) due.old due.new (e.count + run.low - e.lag) (min e.count (e.count + run.high - e.lag)) start }
 {
     let mut n = start;
-    let end = least(count, less(count + high, lag));
-    let mut s = less(count + low, lag);
-    while s < end {
-        let spot = v * 32 + ((s + lag - count) as usize);
-        due[n] = id[spot] * 2 + ((values >> s) % 2) as u16;
+    let end = e.count.min((e.count + run.high).saturating_sub(e.lag));
+    for s in (e.count + run.low).saturating_sub(e.lag)..end {
+        let spot = e.node * 32 + ((s + e.lag - e.count) as usize);
+        due[n] = id[spot] * 2 + ((e.values >> s) % 2) as u16;
         n += 1;
-        s += 1;
     }
     n
 }
 
 // The largest lag.
-fn top_of(lab: &[u32], nodes: usize) -> u32
-    requires { (nodes ≤ 512) × (nodes ≤ length lab.now) × LagsBelow lab.now nodes 24 }
-    ensures { LagsBelow lab.now nodes result }
+fn top_of(lab: &[u32]) -> u32
+    requires { LagsBelow lab.now (length lab.now) 24 }
+    ensures { LagsBelow lab.now (length lab.now) result }
 {
-    let mut top = 0;
-    let mut v = 0;
-    while v < nodes {
-        let lag = up_of(lab[v]);
-        if top < lag {
-            top = lag;
-        }
-        v += 1;
-    }
-    top
+    lab.iter().map(|label| up_of(*label)).max().unwrap_or(0)
 }
 
-// One run of clocks, from `low` up to `high`, of every edge: a row for each edge that has something due in it, put after the first `before` rows. How many rows there
-// are then. (The search goes through all rows once for each level, so a row with nothing in it would cost.)
+// One run of clocks of every edge: a row for each edge that has something due in it, put after the rows that are there.
+// (The search goes through all rows once for each level, so a row with nothing in it would cost.)
 fn put_run(
-    net: Netlist,
-    lab: &[u32],
-    along: &[u16],
-    id: &[u16],
-    low: u32,
-    high: u32,
-    before: usize,
-    due: &mut [u16],
-    begin: &mut [u16],
-) -> usize
-    requires labelled { Labelled net lab.now × EachEdge along.now net.edges × Celled (lag_at lab.now) net.nodes 12288 id.now }
-    requires low_le_high { (low ≤ high) × (high ≤ 24) × (before ≤ 4096) × (length along.now ≡ 1024) × (length due.old ≡ 24576) × (length begin.old ≡ 5121) }
-    requires dues_to { DuesTo net (lag_at lab.now) id.now along.now low low 0 before due.old begin.old (at begin.old before) }
-    ensures upper_bound { result ≤ before + net.edges }
-    ensures dues_to_2 { DuesTo net (lag_at lab.now) id.now along.now high high 0 result due.new begin.new (at begin.new result) }
+    task: &Task<'_>,
+    along: &[u16; EDGES],
+    id: &[u16; CODES],
+    run: Run,
+    due: &mut [u16; DUES],
+    rows: &mut Rows,
+)
+    requires labelled { Labelled task.now.net.now task.now.lab.now × EachEdge along.now task.now.net.now.edges × Celled (lag_at task.now.lab.now) task.now.net.now.nodes 12288 id.now }
+    requires few_rows { rows.old.count ≤ 4096 }
+    requires dues_to { DuesTo task.now.net.now (lag_at task.now.lab.now) id.now along.now run.low run.low 0 rows.old.count due.old rows.old.begin (at rows.old.begin rows.old.count) }
+    ensures upper_bound { rows.new.count ≤ rows.old.count + task.now.net.now.edges }
+    ensures dues_to_2 { DuesTo task.now.net.now (lag_at task.now.lab.now) id.now along.now run.high run.high 0 rows.new.count due.new rows.new.begin (at rows.new.begin rows.new.count) }
 {
-    let edges = net.edges as usize;
-    let mut rows = before;
-    let mut n = begin[before] as usize;
-    let mut p = 0;
-    while p < edges {
+    let net = task.net;
+    let lab = task.lab;
+    let mut n = rows.begin[rows.count] as usize;
+    for p in 0..net.edges as usize {
         let e = along[p] as usize;
-        let v = net.from[e] as usize;
-        let lag = up_of(lab[v]);
-        let count = net.count[e] as u32;
-        let values = net.start[e];
-        let end = append_dues(v, lag, count, values, low, high, id, n, due);
+        let node = net.from[e] as usize;
+        let leaving = Leaving {
+            node,
+            lag: up_of(lab[node]),
+            count: u32::from(net.count[e]),
+            values: net.start[e],
+        };
+        let end = append_dues(leaving, run, id, n, due);
         if n < end {
-            rows += 1;
-            begin[rows] = end as u16;
+            rows.count += 1;
+            rows.begin[rows.count] = end as u16;
             n = end;
         }
-        p += 1;
     }
-    rows
 }
 
 // What is due, in rows: an edge's moved clocks in runs of 1, 2, 4, … clocks, the first runs of all edges first, so that an early clock of one edge does not wait for
-// the late ones of another; edges in the evaluation order of the nodes that they leave: the search then looks at a value soon after it is evaluated. How many rows.
+// the late ones of another; edges in the evaluation order of the nodes that they leave: the search then looks at a value soon after it is evaluated.
 pub fn dues_of(
-    net: Netlist,
-    lab: &[u32],
-    order: &[u16],
-    id: &[u16],
-    due: &mut [u16],
-    begin: &mut [u16],
-) -> usize
-    requires labelled { Labelled net lab.now × Arranged order.now net.nodes × Celled (lag_at lab.now) net.nodes 12288 id.now }
-    requires due_len { (length due.old ≡ 24576) × (length begin.old ≡ 5121) }
-    ensures owes { Owes 12288 due.new begin.new result }
-    ensures dues { Dues net (lag_at lab.now) (cell_at id.now) due.new (at begin.new result) }
+    task: &Task<'_>,
+    order: &[u16; NODES],
+    id: &[u16; CODES],
+    due: &mut [u16; DUES],
+    rows: &mut Rows,
+)
+    requires labelled { Labelled task.now.net.now task.now.lab.now × Arranged order.now task.now.net.now.nodes × Celled (lag_at task.now.lab.now) task.now.net.now.nodes 12288 id.now }
+    ensures owes { Owes 12288 due.new rows.new.begin rows.new.count }
+    ensures dues { Dues task.now.net.now (lag_at task.now.lab.now) (cell_at id.now) due.new (at rows.new.begin rows.new.count) }
 {
-    let nodes = net.nodes as usize;
-    let edges = net.edges as usize;
-    let along = edges_along(&net.from, order, nodes, edges);
-    let top = top_of(lab, nodes);
-    begin[0] = 0;
-    let mut rows = 0;
+    let net = task.net;
+    let wires = Wires {
+        nodes: net.nodes as usize,
+        edges: net.edges as usize,
+        from: &net.from,
+        to: &net.to,
+    };
+    let along = edges_along(&wires.from[..wires.edges], &order[..wires.nodes]);
+    let top = top_of(&task.lab[..wires.nodes]);
+    rows.begin[0] = 0;
+    rows.count = 0;
     let mut low = 0;
+    // Kept: no index is counted, a run ends past twice its beginning (d).
     while low < top {
-        let high = least(2 * low + 1, 24);
-        rows = put_run(net, lab, &along, id, low, high, rows, due, begin);
+        let high = (2 * low + 1).min(24);
+        put_run(task, &along, id, Run { low, high }, due, rows);
         low = high;
     }
-    rows
 }

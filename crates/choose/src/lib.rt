@@ -4,18 +4,12 @@
 mod cells;
 mod choosing;
 mod dues;
+mod task;
 mod words;
 
 pub use choosing::choose;
 use graph::{EDGES, NODES};
 use moves::MOST_CHOSEN;
-
-// found: `words` has the chosen start values of each edge, bit t for clock t.
-#[derive(Clone, Copy)]
-pub struct Choice {
-    pub found: bool,
-    pub words: [u32; EDGES],
-}
 
 // No lag is above the number of chosen values.
 const LAGS: usize = MOST_CHOSEN as usize;

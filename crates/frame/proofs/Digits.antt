@@ -5,7 +5,7 @@
 --   char_small, digit_most       a digit is a byte; a value is at most 16
 --   Entered d table              the table of the digits below d; entered_none, entered_more, entered_all
 --   digits a b, digits_true      both are digits
---   byte_good, byte_digits       a byte's value where both are digits; below 256 only there
+--   byte_good, byte_digits, byte_none    a byte's value where both are digits; there is one only there
 --   byte_hex, byte_written       a byte is written with the digits that it is read from, and read from those that it is written with
 use mathlib.Core.Path.{◌≡◌, refl, ap, sym, ◌∙◌}
 use mathlib.Core.Bool.{Bool, true, false, cond}
@@ -17,8 +17,9 @@ use lib.Dec.{ltb, leb}
 use lib.ListN.{length, get_or, set, replicate, length-set, get_or-replicate}
 use lib.Seq.{get_or-set_same, get_or-set_other}
 use borrow.Author.Tests.{ltb-true, leb-true, lt-ltb, le-ltb, le-leb, lt-leb}
+use Rattle.std.specs.Prelude.{None, Some}
 use Rattle.frame.specs.Frame.{within, digit_of, char_of, hex_of}
-use Rattle.frame.specs.inner.Decoded.{Digits, pair_of}
+use Rattle.frame.specs.inner.Decoded.{Digits, byte_of}
 
 pub clash : {A : Type 0} → ◌≡◌ {A = ℕ} 0 1 → A
 clash e = absurd (omega arith)
@@ -121,32 +122,41 @@ digits_true x y e = go (ltb x 16) refl e
     go false p q = clash (cc)
 
 module _ (a b : ℕ) where
-  pub byte_good : digit_of a < 16 → digit_of b < 16 → pair_of a b ≡ digit_of a * 16 + digit_of b
-  unfolding pair_of
+  pub byte_good : digit_of a < 16 → digit_of b < 16 → byte_of a b ≡ Some (digit_of a * 16 + digit_of b)
+  unfolding byte_of
   byte_good h k = rw (lt-ltb (digit_of a) 16 h, lt-ltb (digit_of b) 16 k)
 
-  -- Below 256 only where both are digits.
-  pub byte_digits : pair_of a b < 256 → digits a b ≡ true
-  unfolding pair_of
-  byte_digits h = go (digits a b) refl h
+  -- There is a byte only where both are digits.
+  pub byte_digits : (x : ℕ) → byte_of a b ≡ Some x → (digits a b ≡ true) × (x ≡ digit_of a * 16 + digit_of b)
+  unfolding byte_of
+  byte_digits x h = go (digits a b) refl h
     where
-      go : (t : Bool) → digits a b ≡ t → cond t (digit_of a * 16 + digit_of b) 256 < 256 → digits a b ≡ true
-      go true e h = e
-      go false e h = absurd (omega arith)
+      go : (t : Bool) → digits a b ≡ t → cond t (Some (digit_of a * 16 + digit_of b)) None ≡ Some x → (digits a b ≡ true) × (x ≡ digit_of a * 16 + digit_of b)
+      go true e h = (e, cc)
+      go false e h = clash (cc)
 
-  -- A byte that is read is written with the same digits.
-  pub byte_hex : pair_of a b < 256 → hex_of (pair_of a b ∷ []) ≡ a ∷ b ∷ []
+  pub byte_none : byte_of a b ≡ None → digits a b ≡ false
+  unfolding byte_of
+  byte_none h = go (digits a b) refl h
+    where
+      go : (t : Bool) → digits a b ≡ t → cond t (Some (digit_of a * 16 + digit_of b)) None ≡ None → digits a b ≡ false
+      go true e h = clash (cc)
+      go false e h = e
+
+  -- A byte that is read is below 256, and is written with the same digits.
+  pub byte_hex : (x : ℕ) → byte_of a b ≡ Some x → (x < 256) × (hex_of (x ∷ []) ≡ a ∷ b ∷ [])
   unfolding hex_of
-  byte_hex h =
-      let d = digits_true (digit_of a) (digit_of b) (byte_digits h) in
-      let v = byte_good d.0 d.1 in
-      let e : pair_of a b / 16 ≡ digit_of a = omega (arith, d) in
-      let f : pair_of a b % 16 ≡ digit_of b = omega (arith, d) in
-      rw (e, f, char_digit a d.0, char_digit b d.1)
+  byte_hex x h =
+      let v = byte_digits x h in
+      let d = digits_true (digit_of a) (digit_of b) v.0 in
+      let e : x / 16 ≡ digit_of a = omega (arith, d, v) in
+      let f : x % 16 ≡ digit_of b = omega (arith, d, v) in
+      (omega (arith, d, v), rw (e, f, char_digit a d.0, char_digit b d.1))
 
-pub byte_written : (b : ℕ) → b < 256 → pair_of (char_of (b / 16)) (char_of (b % 16)) ≡ b
-unfolding pair_of
+pub byte_written : (b : ℕ) → b < 256 → byte_of (char_of (b / 16)) (char_of (b % 16)) ≡ Some b
+unfolding byte_of
 byte_written b h =
     let hi = digit_char (b / 16) (omega arith) in
     let lo = digit_char (b % 16) (omega arith) in
-    rw (hi, lo, lt-ltb (b / 16) 16 (omega arith), lt-ltb (b % 16) 16 (omega arith)) (omega arith)
+    let e : b / 16 * 16 + b % 16 ≡ b = omega arith in
+    rw (hi, lo, lt-ltb (b / 16) 16 (omega arith), lt-ltb (b % 16) 16 (omega arith), e)

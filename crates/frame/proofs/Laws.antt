@@ -11,32 +11,25 @@ use mathlib.Core.Bool.{Bool, true, false, cond}
 use mathlib.Core.List.{List, [], ◌∷◌, ◌++◌}
 use Prim.Native.Nat.{ℕ, zero, suc, ◌+◌, ◌*◌, ◌≤◌, ◌<◌}
 use native.Mathlib.Omega.{arith}
-use native.Mathlib.Decide.{dec_lt}
 use lib.Dec.{eqb, ltb}
 use lib.ListN.{length, drop, length-append, length-drop}
 use lib.Seq.{drop_at, drop-drop}
 use borrow.Author.Tests.{eqb-true, eq-eqb}
+use Rattle.std.specs.Prelude.{Option, None, Some}
 use Rattle.frame.specs.Frame.{digit_of, Line, bad, line, with_byte, line_at, of_kind, frame_at, hex_of, line_of}
-use Rattle.frame.specs.inner.Decoded.{pair_of}
-use Rattle.frame.proofs.Digits.{clash, digits, digits_true, byte_good, byte_digits, byte_hex, byte_written}
+use Rattle.frame.specs.inner.Decoded.{byte_of}
+use Rattle.frame.proofs.Digits.{clash, byte_digits, byte_none, byte_hex, byte_written}
 use Rattle.frame.proofs.Numbers.{Bytes}
 
 module _ (a b : ℕ) where
   -- A line that starts with two digits.
-  pub line_more : (n : ℕ) (l : List ℕ) → pair_of a b < 256 → line_at (suc n) (a ∷ b ∷ l) ≡ with_byte (pair_of a b) (line_at n l)
+  pub line_more : (x n : ℕ) (l : List ℕ) → byte_of a b ≡ Some x → line_at (suc n) (a ∷ b ∷ l) ≡ with_byte x (line_at n l)
   unfolding line_at
-  line_more n l h =
-      let d = digits_true (digit_of a) (digit_of b) (byte_digits a b h) in
-      rw (byte_digits a b h, byte_good a b d.0 d.1)
+  line_more x n l h = let v = byte_digits a b x h in rw (v.0, v.1)
 
-  pub line_none : (n : ℕ) (l : List ℕ) → 256 ≤ pair_of a b → line_at (suc n) (a ∷ b ∷ l) ≡ bad
-  unfolding line_at pair_of
-  line_none n l h = go (digits a b) refl h
-    where
-      go : (t : Bool) → digits a b ≡ t → 256 ≤ cond t (digit_of a * 16 + digit_of b) 256
-          → cond t (with_byte (digit_of a * 16 + digit_of b) (line_at n l)) bad ≡ bad
-      go true e h = absurd (omega (arith, digits_true (digit_of a) (digit_of b) e))
-      go false e h = refl
+  pub line_none : (n : ℕ) (l : List ℕ) → byte_of a b ≡ None → line_at (suc n) (a ∷ b ∷ l) ≡ bad
+  unfolding line_at
+  line_none n l h = rw (byte_none a b h)
 
 pub length_hex : (bs : List ℕ) → length (hex_of bs) ≡ 2 * length bs
 unfolding hex_of
@@ -70,19 +63,20 @@ line_end c l bs rest e = go (eqb c 10) refl e
 line_step : (a b n : ℕ) (l bs rest : List ℕ) → ((cs r : List ℕ) → line_at n l ≡ line cs r → Front n l cs r)
     → line_at (suc n) (a ∷ b ∷ l) ≡ line bs rest → Front (suc n) (a ∷ b ∷ l) bs rest
 unfolding Bytes
-line_step a b n l bs rest next e = go (dec_lt (pair_of a b) 256)
+line_step a b n l bs rest next e = go (byte_of a b) refl
   where
-    more : (m : Line) → line_at n l ≡ m → with_byte (pair_of a b) m ≡ line bs rest → pair_of a b < 256 → Front (suc n) (a ∷ b ∷ l) bs rest
-    more bad p q h = clash (cc)
-    more (line cs r) p q h =
-        let u : pair_of a b ∷ cs ≡ bs = cc in
+    more : (x : ℕ) (m : Line) → line_at n l ≡ m → with_byte x m ≡ line bs rest → byte_of a b ≡ Some x → Front (suc n) (a ∷ b ∷ l) bs rest
+    more x bad p q h = clash (cc)
+    more x (line cs r) p q h =
+        let u : x ∷ cs ≡ bs = cc in
         let v : r ≡ rest = cc in
         let w = next cs r p in
-        rw (← u, ← v) (ap suc w.0, ((h, w.1.0), rw (line_cons, byte_hex a b h, ← w.1.1)))
+        let b = byte_hex a b x h in
+        rw (← u, ← v) (ap suc w.0, ((b.0, w.1.0), rw (line_cons, b.1, ← w.1.1)))
 
-    go : Dec (pair_of a b < 256) → Front (suc n) (a ∷ b ∷ l) bs rest
-    go (yes h) = more (line_at n l) refl (sym (line_more a b n l h) ∙ e) h
-    go (no h) = let w = line_none a b n l (omega arith) in clash (cc)
+    go : (o : Option ℕ) → byte_of a b ≡ o → Front (suc n) (a ∷ b ∷ l) bs rest
+    go (Some x) h = more x (line_at n l) refl (sym (line_more a b x n l h) ∙ e) h
+    go None h = let w = line_none a b n l h in clash (cc)
 
 -- A line that is read is the line written from its bytes.
 pub line_rest : (n : ℕ) (l bs rest : List ℕ) → line_at n l ≡ line bs rest → (length bs ≡ n) × (Bytes bs × (l ≡ line_of bs ++ rest))
@@ -99,7 +93,7 @@ unfolding line_at line_of hex_of Bytes
 line_written [] post h = refl
 line_written (b ∷ bs) post h =
     let e = byte_written b h.0 in
-    line_more _ _ (length bs) (line_of bs ++ post) (rw e h.0) ∙ rw (e, line_written bs post h.1)
+    line_more _ _ b (length bs) (line_of bs ++ post) e ∙ rw (line_written bs post h.1)
 
 -- The same with a kind in front.
 pub frame_rest : (k n : ℕ) (l bs rest : List ℕ) → frame_at k n l ≡ line bs rest → (length bs ≡ n) × (Bytes bs × (l ≡ line_of (k ∷ bs) ++ rest))

@@ -3,6 +3,7 @@
 --   number_append, number_small  the number of bytes, and its bound
 --   number_bytes, bytes_number   a number as n bytes, and back
 --   bytes-..., length_bytes      lists of bytes
+--   code_one, code_two, code_four    the bytes that code makes of a number
 use mathlib.Core.Path.{◌≡◌, refl}
 use mathlib.Core.List.{List, [], ◌∷◌, ◌++◌}
 use Prim.Native.Nat.{ℕ, zero, suc, ◌+◌, ◌*◌, ◌^◌, ◌/◌, ◌%◌, ◌≤◌, ◌<◌}
@@ -10,6 +11,7 @@ use native.Mathlib.Omega.{arith}
 use native.Mathlib.Nat.{pow-suc, mul_assoc, add-mul, mul-le-mul_right, mul-add-div_right, mul-add-mod_self_right, zero-lt-suc}
 use lib.Pow.{pow-add}
 use lib.ListN.{length, take, drop, length-append}
+use Rattle.std.specs.Int.{w16, w32, to_be_bytes}
 use Rattle.frame.specs.Frame.{number, bytes_of}
 
 unfoldable pub Bytes : List ℕ → Type 0
@@ -83,3 +85,19 @@ pub bytes_number : (bs : List ℕ) → Bytes bs → bytes_of (length bs) (number
 unfolding bytes_of number Bytes
 bytes_number [] h = refl
 bytes_number (b ∷ bs) h = rw (bytes_cons (length bs) b (number bs) h.0 (number_small bs h.1), bytes_number bs h.1)
+
+-- A number's bytes as code makes them, by `to_be_bytes`; one of a byte is itself.
+pub code_two : (x : ℕ) → to_be_bytes w16 x ≡ bytes_of 2 x
+unfolding bytes_of
+code_two x = refl
+
+pub code_four : (x : ℕ) → to_be_bytes w32 x ≡ bytes_of 4 x
+unfolding bytes_of
+code_four x =
+    let three : x / 256 / 256 / 256 ≡ x / 16777216 = omega arith in
+    let two : x / 256 / 256 ≡ x / 65536 = omega arith in
+    rw (three, two)
+
+pub code_one : (x : ℕ) → x < 256 → bytes_of 1 x ≡ x ∷ []
+unfolding bytes_of
+code_one x h = let e : x % 256 ≡ x = omega arith in rw e

@@ -2,17 +2,13 @@
 // A cursor is an offset into the text; no offset is computed in closed form.
 #![tactic(auto)]
 
-ghost use Rattle.std.specs.Prelude.{◌≡◌, ◌∷◌, [], ◌+◌, ◌*◌, ◌<◌, ◌≤◌, length, take, drop};
+ghost use Rattle.std.specs.Prelude.{◌≡◌, ◌∷◌, [], ◌+◌, ◌*◌, ◌<◌, ◌≤◌, leb, length, drop};
 ghost use Rattle.std.proofs.lemmas.List.Edits.{sets};
-ghost use Rattle.frame.specs.Frame.{line_at, bad, char_of, hex_of, line_of, placed};
-ghost use Rattle.frame.specs.inner.Decoded.{Digits, pair_of, decoded, framed};
+ghost use Rattle.frame.specs.Frame.{line_at, char_of, hex_of, line_of, placed};
+ghost use Rattle.frame.specs.inner.Decoded.{Digits, byte_of, decoded, framed};
 
-// A line's bytes after its kind, or `ok` false. Bytes past the line's are 0.
-#[derive(Clone, Copy)]
-pub struct Frame {
-    pub ok: bool,
-    pub bytes: [u8; 16],
-}
+// The byte that ends a line.
+const LINE_FEED: u8 = 10;
 
 // The digit of a value below 16.
 fn char_of(d: u8) -> u8
@@ -22,95 +18,80 @@ fn char_of(d: u8) -> u8
     if d < 10 { d + 48 } else { d + 55 }
 }
 
-// The table of digits: each byte's value as a hex digit, 0-9 A-F, and 16 for any other byte. It is made once for many lines, so that a digit is looked up.
-pub fn digit_table() -> [u8; 256]
-    ensures { Digits result }
+// Whether the digits of n bytes and a line feed fit into so much room.
+fn has_room(room: usize, n: usize) -> bool
+    ensures { result ≡ leb (2 * n + 1) room }
 {
-    let mut table = [16u8; 256];
-    let mut d = 0;
-    while d < 16 {
-        table[char_of(d) as usize] = d;
-        d += 1;
-    }
-    table
+    n < room.div_ceil(2)
 }
 
-// The byte of two digits; 256 where one of them is no digit.
-fn byte(table: &[u8], high: u8, low: u8) -> u16
-    requires { length table.now ≡ 256 }
-    ensures { Digits table.now → result ≡ pair_of high low }
-{
-    let h = table[high as usize];
-    let l = table[low as usize];
-    if 16 <= h {
-        return 256;
-    }
-    if 16 <= l {
-        return 256;
-    }
-    (h * 16 + l) as u16
+// Each byte's value as a hex digit, 0-9 A-F, and 16 for any other byte. It is made once for many lines, so that a digit is looked up.
+// Kept: 16 in place of None, since it is what specs/Frame gives such a byte, and the ghost field is one equation for all bytes.
+#[derive(Clone, Copy)]
+pub struct DigitTable {
+    values: [u8; 256],
+    ghost digits: { Digits values },
 }
 
-// No line.
-fn none() -> Frame
-    ensures { result ≡ decoded bad }
-{
-    Frame {
-        ok: false,
-        bytes: [0; 16],
-    }
-}
-
-// The line of `n` bytes at `at`, where there is room for one.
-fn line_at(table: &[u8], text: &[u8], at: usize, n: usize) -> Frame
-    requires { (length table.now ≡ 256) × (n ≤ 16) × (at + (2 * n + 1) ≤ length text.now) }
-    ensures { Digits table.now → result ≡ decoded (line_at n (drop at text.now)) }
-{
-    let mut bytes = [0u8; 16];
-    let mut i = 0;
-    while i < n {
-        let b = byte(table, text[at + 2 * i], text[at + 2 * i + 1]);
-        if 255 < b {
-            return none();
+impl DigitTable {
+    pub fn new() -> DigitTable
+        ensures { Digits result.values }
+    {
+        let mut values = [16u8; 256];
+        for d in 0..16u8 {
+            values[char_of(d) as usize] = d;
         }
-        bytes[i] = b as u8;
-        i += 1;
+        DigitTable { values }
     }
-    if text[at + 2 * n] != 10 {
-        return none();
-    }
-    Frame { ok: true, bytes }
-}
 
-// The line of kind `kind` with `n` more bytes at `at`, or `ok` false, by a table that `digit_table` made; by any other nothing is promised.
-pub fn frame_by(table: &[u8], text: &[u8], at: usize, kind: u8, n: usize) -> Frame
-    ensures { Digits table.now → result ≡ framed kind n (drop at text.now) }
-{
-    if table.len() != 256 {
-        return none();
+    // The byte of two digits; none where one of them is no digit.
+    fn byte(&self, high: u8, low: u8) -> Option<u8>
+        ensures { result ≡ byte_of high low }
+    {
+        let h = self.values[high as usize];
+        let l = self.values[low as usize];
+        if 16 <= h || 16 <= l {
+            return None;
+        }
+        Some(h * 16 + l)
     }
-    if 16 < n {
-        return none();
+
+    // The line of N bytes at `at`, where there is room for one.
+    fn bytes_at<const N: usize>(&self, text: &[u8], at: usize) -> Option<[u8; N]>
+        requires { at + (2 * N + 1) ≤ length text.now }
+        ensures { result ≡ decoded (line_at N (drop at text.now)) }
+    {
+        let mut bytes = [0u8; N];
+        for i in 0..N {
+            bytes[i] = self.byte(text[at + 2 * i], text[at + 2 * i + 1])?;
+        }
+        if text[at + 2 * N] != LINE_FEED {
+            return None;
+        }
+        Some(bytes)
     }
-    if text.len() < at {
-        return none();
+
+    // The line of kind `kind` with N more bytes at `at`: those N.
+    pub fn line<const N: usize>(&self, text: &[u8], at: usize, kind: u8) -> Option<[u8; N]>
+        ensures { result ≡ framed kind N (drop at text.now) }
+    {
+        let left = text.len().saturating_sub(at);
+        if !has_room(left.saturating_sub(2), N) {
+            return None;
+        }
+        let b = self.byte(text[at], text[at + 1])?;
+        if b != kind {
+            return None;
+        }
+        self.bytes_at(text, at + 2)
     }
-    if text.len() - at < 2 * n + 3 {
-        return none();
-    }
-    let b = byte(table, text[at], text[at + 1]);
-    if b != kind as u16 {
-        return none();
-    }
-    line_at(table, text, at + 2, n)
 }
 
 // The same of one line, by a table of its own.
-pub fn frame_at(text: &[u8], at: usize, kind: u8, n: usize) -> Frame
-    ensures { result ≡ framed kind n (drop at text.now) }
+pub fn line_at<const N: usize>(text: &[u8], at: usize, kind: u8) -> Option<[u8; N]>
+    ensures { result ≡ framed kind N (drop at text.now) }
 {
-    let table = digit_table();
-    frame_by(&table, text, at, kind, n)
+    DigitTable::new().line(text, at, kind)
 }
 
 // A byte's two digits at `at`, where there is room.
@@ -122,29 +103,24 @@ fn put_byte(out: &mut [u8], at: usize, b: u8)
     out[at + 1] = char_of(b % 16);
 }
 
-// The digits of the first `n` of `bytes`, from `at` on, where there is room.
-fn put_bytes(out: &mut [u8], at: usize, bytes: [u8; 16], n: usize)
-    requires { (n ≤ 16) × (at + 2 * n ≤ length out.old) }
-    ensures { out.new ≡ sets out.old at (hex_of (take n bytes)) }
+// The digits of `bytes`, from `at` on, where there is room.
+fn put_bytes(out: &mut [u8], at: usize, bytes: &[u8])
+    requires { at + 2 * length bytes.now ≤ length out.old }
+    ensures { out.new ≡ sets out.old at (hex_of bytes.now) }
 {
-    let mut i = 0;
-    while i < n {
-        put_byte(out, at + 2 * i, bytes[i]);
-        i += 1;
+    for (i, b) in bytes.iter().enumerate() {
+        put_byte(out, at + 2 * i, *b);
     }
 }
 
-// The line of the first `n` of `bytes`, from place `at` of `out` on; where there is no room for it `out` stays as it was.
-pub fn put_line(out: &mut [u8], at: usize, bytes: [u8; 16], n: usize)
-    ensures { out.new ≡ placed out.old at (line_of (take n bytes)) }
+// The line of `bytes`, from place `at` of `out` on; where there is no room for it `out` stays as it was.
+pub fn put_line(out: &mut [u8], at: usize, bytes: &[u8])
+    ensures { out.new ≡ placed out.old at (line_of bytes.now) }
 {
-    let m = if n < 16 { n } else { 16 };
-    if out.len() < at {
+    let left = out.len().saturating_sub(at);
+    if !has_room(left, bytes.len()) {
         return;
     }
-    if out.len() - at < 2 * m + 1 {
-        return;
-    }
-    put_bytes(out, at, bytes, m);
-    out[at + 2 * m] = 10;
+    put_bytes(out, at, bytes);
+    out[at + 2 * bytes.len()] = LINE_FEED;
 }

@@ -1,19 +1,20 @@
 -- A row of gates, a turn at a time.
 --   bits_set            a bit put among bits
---   seen_bits, placed_seen    what a gate sees is bits, and in place
+--   seen_bits, part_rows, placed_seen    what a gate sees is bits, and in place
 --   evaluated_more, evaluated_length, evaluated_bits    one gate more; as many signals; bits
+--   evaluable_cut, truths_cut, evaluated_cut, cut_length    the first gates of a longer list, as a list of their own
 use Prim.Native.Nat.{ℕ, zero, suc, ◌+◌, ◌-◌, ◌<◌, ◌≤◌}
 use native.Mathlib.Omega.{arith}
 use native.Mathlib.Numerals.{add-one}
 use native.Mathlib.Decide.{ℕ_discrete, dec_lt}
-use mathlib.Core.Path.{◌≡◌, refl, sym, ap, subst}
+use mathlib.Core.Path.{◌≡◌, refl, sym, ap, ap₂, ◌∙◌, subst}
 use mathlib.Core.List.{List, map}
 use lib.ListN.{length, set, length-set}
 use lib.Seq.{get_or-set_same, get_or-set_other, set_out}
 use Rattle.theory.specs.Gate.{gate}
 use Rattle.theory.proofs.clocks.Gate.{gate_bit}
 use Rattle.graph.specs.Columns.{at}
-use Rattle.gates.specs.inner.Gates.{part, AllBits, InputRows, evaluated, GateRows}
+use Rattle.gates.specs.inner.Gates.{part, AllBits, Narrow, Reckons, InputRows, evaluated, GateRows, Evaluable, Truths}
 use Rattle.gates.proofs.Words.{part_length, part_at, bits_map}
 
 pub bits_set : (sig : List ℕ) (i x : ℕ) → x ≤ 1 → AllBits sig → AllBits (set sig i x)
@@ -24,21 +25,23 @@ bits_set sig i x h b k = go (ℕ_discrete k i) (dec_lt i (length sig))
     go (yes z) (yes l) = subst (λ n. at (set sig i x) n ≤ 1) (sym z) (omega (arith, get_or-set_same sig i x 0 l))
     go (yes z) (no l) = omega (arith, ap (λ s. at s k) (set_out sig i x (omega arith)), b k)
 
-pub seen_bits : (truth : ℕ) (list : List ℕ) (lo hi : ℕ) (sig : List ℕ) → InputRows truth list lo hi sig → AllBits (map (at sig) (part list lo hi))
-seen_bits truth list lo hi sig s = bits_map (at sig) (part list lo hi) (λ i h. one i (subst (λ n. i < n) (part_length list lo hi s.in_list) h))
-  where
-    one : (i : ℕ) → i < hi - lo → at sig (at (part list lo hi) i) ≤ 1
-    one i h = rw (part_at list lo hi i h) (s.signals (lo + i) (omega arith) (omega arith)).1
+pub seen_bits : (truth : ℕ) (sees sig : List ℕ) → InputRows truth sees sig → AllBits (map (at sig) sees)
+seen_bits truth sees sig s = bits_map (at sig) sees (λ i h. (s.signals i h).1)
+
+-- What stands in a part of a list.
+pub part_rows : (truth : ℕ) (list : List ℕ) (lo hi : ℕ) (sig : List ℕ) → hi ≤ length list → Narrow truth (hi - lo)
+    → ((j : ℕ) → lo ≤ j → j < hi → (at list j < length sig) × (at sig (at list j) ≤ 1)) → InputRows truth (part list lo hi) sig
+part_rows truth list lo hi sig h narrow signals =
+    let e = part_length list lo hi h in record {
+      narrow = subst (Narrow truth) (sym e) narrow;
+      signals = λ j k. let l : j < hi - lo = omega (arith, e) in rw (part_at list lo hi j l) (signals (lo + j) (omega arith) (omega arith));
+    }
 
 -- The signals of a gate that has its place, among signals that are as many as there were before, and bits.
 pub placed_seen : (truth first list : List ℕ) (base : ℕ) (old sig : List ℕ) (v : ℕ) → GateRows truth first list base (length old) v → length sig ≡ length old → AllBits sig
-    → InputRows (at truth v) list (at first v) (at first (v + 1)) sig
-placed_seen truth first list base old sig v p e b = rw add-one record {
-  up = p.up;
-  in_list = p.in_list;
-  narrow = p.narrow;
-  signals = λ j l h. (omega (arith, p.signals j l h), b (at list j));
-}
+    → InputRows (at truth v) (part list (at first v) (at first (v + 1))) sig
+placed_seen truth first list base old sig v p e b = rw add-one
+    (part_rows (at truth v) list (at first v) (at first (suc v)) sig p.in_list p.narrow (λ j l h. (omega (arith, p.signals j l h), b (at list j))))
 
 -- ── The signals ─────────────────────────────────────────────────────────────────────────────
 
@@ -63,3 +66,36 @@ module _ (kind node first list : List ℕ) (base : ℕ) (sig : List ℕ) where
       let v = at node n in
       let l = map (at before) (part list (at first v) (at first (suc v))) in
       bits_set before (base + v) (gate (at kind v) l) (gate_bit (at kind v) l) (evaluated_bits n b)
+
+-- ── The first gates of a longer list ────────────────────────────────────────────────────────
+
+cut_at : (node : List ℕ) (n i : ℕ) → i < n → at (part node 0 n) i ≡ at node i
+cut_at node n i h = part_at node 0 n i (omega arith) ∙ ap (at node) (let z : 0 + i ≡ i = omega arith in z)
+
+pub cut_length : (node : List ℕ) (n : ℕ) → n ≤ length node → length (part node 0 n) ≡ n
+cut_length node n h = omega (arith, part_length node 0 n h)
+
+pub evaluable_cut : (node truth first list : List ℕ) (n base : ℕ) (sig : List ℕ) → Evaluable node truth first list n base sig
+    → Evaluable (part node 0 n) truth first list (length (part node 0 n)) base sig
+evaluable_cut node truth first list n base sig e =
+    let c = cut_length node n e.in_node in record {
+      in_node = omega arith;
+      placed = λ i h. let l : i < n = omega arith in subst (GateRows truth first list base (length sig)) (sym (cut_at node n i l)) (e.placed i l);
+      bits = e.bits;
+    }
+
+pub truths_cut : (kind node truth first : List ℕ) (n : ℕ) → n ≤ length node → Truths kind node truth first n → Truths kind (part node 0 n) truth first (length (part node 0 n))
+truths_cut kind node truth first n h t i k =
+    let c = cut_length node n h in
+    let l : i < n = omega arith in
+    subst (λ v. Reckons (at kind v) (at first (suc v) - at first v) (at truth v)) (sym (cut_at node n i l)) (t i l)
+
+module _ (kind node first list : List ℕ) (base : ℕ) (sig : List ℕ) (n : ℕ) where
+  cut_to : (m : ℕ) → m ≤ n → evaluated kind (part node 0 n) first list base m sig ≡ evaluated kind node first list base m sig
+  unfolding evaluated
+  cut_to zero h = refl
+  cut_to (suc m) h =
+      ap₂ (λ before v. set before (base + v) (gate (at kind v) (map (at before) (part list (at first v) (at first (suc v)))))) (cut_to m (omega arith)) (cut_at node n m (omega arith))
+
+  pub evaluated_cut : n ≤ length node → evaluated kind (part node 0 n) first list base (length (part node 0 n)) sig ≡ evaluated kind node first list base n sig
+  evaluated_cut h = ap (λ m. evaluated kind (part node 0 n) first list base m sig) (cut_length node n h) ∙ cut_to n (omega arith)

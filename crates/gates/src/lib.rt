@@ -3,8 +3,10 @@
 // Internal: asks of the caller (`requires`) gates that keep the rules and signals that are in place.
 #![tactic(auto)]
 
+mod table;
 mod truths;
 mod values;
 
-pub use truths::{index_table, put_truths};
-pub use values::{evaluate, value};
+pub use table::IndexTable;
+pub use truths::put_truths;
+pub use values::{GateList, evaluate, value};

@@ -1,54 +1,58 @@
 // Values from signals. What a gate sees is listed as places in `sig`, where 0 or 1 stands.
 // Required: signals in place for each gate, and its truth word; the plan of a netlist and the program of a search have them.
-ghost use Rattle.std.specs.Prelude.{◌≡◌, List, map, ℕ, suc, ◌-◌, ◌*◌, ◌^◌, ◌<◌, ◌≤◌};
+ghost use Rattle.std.specs.Prelude.{◌≡◌, List, map, length, ℕ, suc, ◌*◌, ◌^◌, ◌<◌, ◌≤◌};
 ghost use Rattle.theory.specs.Gate.{gate};
 ghost use Rattle.graph.specs.Columns.{at};
-ghost use Rattle.gates.specs.inner.Gates.{part, word_from, Reckons, Table, InputRows, evaluated, Evaluable, Truths};
+ghost use Rattle.gates.specs.inner.Gates.{word_from, Reckons, InputRows, evaluated, Evaluable, Truths};
 
-// The signals listed from place `start` up to `end` in one word behind `seed`, the first one highest.
-fn gather(list: &[u16], start: usize, end: usize, seed: usize, sig: &[u8]) -> usize
-    requires { InputRows (seed * 512) list.now start end sig.now }
-    ensures { (result ≡ word_from seed (map (at sig.now) (part list.now start end))) × (result < suc seed * 2 ^ (end - start)) }
+use crate::table::IndexTable;
+
+// Gates in columns: `node` lists those that are evaluated, in turn; of node v, `truth[v]` is the truth word, and what it sees is listed from `first[v]` up to
+// `first[v + 1]` in `list`.
+#[derive(Clone, Copy)]
+pub struct GateList<'a> {
+    pub node: &'a [u16],
+    pub truth: &'a [u16],
+    pub first: &'a [u16],
+    pub list: &'a [u16],
+}
+
+// The signals that a gate sees in one word behind `seed`, the first one highest.
+fn gather(sees: &[u16], seed: usize, sig: &[u8]) -> usize
+    requires { InputRows (seed * 512) sees.now sig.now }
+    ensures { (result ≡ word_from seed (map (at sig.now) sees.now)) × (result < suc seed * 2 ^ length sees.now) }
 {
     let mut word = seed;
-    let mut j = start;
-    while j < end {
-        let x = list[j] as usize;
-        word = word * 2 + sig[x] as usize;
-        j += 1;
+    for x in sees {
+        word = word * 2 + sig[*x as usize] as usize;
     }
     word
 }
 
-// The value of the gate with this truth word that sees the signals listed from place `start` up to `end`.
-pub fn value(truth: u16, index: &[u8], list: &[u16], start: usize, end: usize, sig: &[u8]) -> u8
-    requires { Table index.now × InputRows truth list.now start end sig.now }
-    ensures { (result ≤ 1) × ((kind : ℕ) → Reckons kind (end - start) truth → result ≡ gate kind (map (at sig.now) (part list.now start end))) }
+// The value of the gate with this truth word that sees these signals.
+pub fn value(truth: u16, index: &IndexTable, sees: &[u16], sig: &[u8]) -> u8
+    requires { InputRows truth sees.now sig.now }
+    ensures { (result ≤ 1) × ((kind : ℕ) → Reckons kind (length sees.now) truth → result ≡ gate kind (map (at sig.now) sees.now)) }
 {
-    let word = gather(list, start, end, (truth / 512) as usize, sig);
-    ((truth >> (index[word] as u32)) % 2) as u8
+    let bit = index.bit_of(gather(sees, (truth / 512) as usize, sig));
+    ((truth >> bit) % 2) as u8
 }
 
-// The first gates of the list `node`, in turn: gate v sees the signals listed from first[v] up to first[v + 1], and its value goes to base + v.
-pub fn evaluate(
-    node: &[u16],
-    truth: &[u16],
-    index: &[u8],
-    first: &[u16],
-    list: &[u16],
-    gates: usize,
-    base: usize,
-    sig: &mut [u8],
-)
-    requires { Evaluable node.now truth.now index.now first.now list.now gates base sig.old }
-    ensures { (kind : List ℕ) → Truths kind node.now truth.now first.now gates → sig.new ≡ evaluated kind node.now first.now list.now base gates sig.old }
+// The gates of the list, in turn: the value of gate v goes to base + v.
+pub fn evaluate(gates: GateList<'_>, index: &IndexTable, base: usize, sig: &mut [u8])
+    requires { Evaluable gates.node.now gates.truth.now gates.first.now gates.list.now (length gates.node.now) base sig.old }
+    ensures { (kind : List ℕ) → Truths kind gates.entry.node.now gates.entry.truth.now gates.entry.first.now (length gates.entry.node.now)
+        → sig.new ≡ evaluated kind gates.entry.node.now gates.entry.first.now gates.entry.list.now base (length gates.entry.node.now) sig.old }
 {
-    let mut i = 0;
-    while i < gates {
-        let v = node[i] as usize;
-        let lo = first[v] as usize;
-        let hi = first[v + 1] as usize;
-        sig[base + v] = value(truth[v], index, list, lo, hi, sig);
-        i += 1;
+    let GateList {
+        node: nodes,
+        truth,
+        first,
+        list,
+    } = gates;
+    for node in nodes {
+        let v = *node as usize;
+        let sees = &list[first[v] as usize..first[v + 1] as usize];
+        sig[base + v] = value(truth[v], index, sees, sig);
     }
 }

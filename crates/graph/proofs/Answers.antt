@@ -1,6 +1,8 @@
 -- What arrival times say of loops and of reach.
 --   laid_wired          the columns' graph is wired
 --   same_at             each number of a column that repeats one
+--   none_marked         no mark is set in a column of marks that are not
+--   above_cut           whether a time of a slice is above the period tells of the column that it is cut from
 --   loop_told           delays 1, labels 0, the period the number of nodes: some time is above it where there is a loop without a register
 --   from_told           delays 1 at pins and 0 elsewhere, no registers, the period 0: the time is 1 where a pin reaches the node
 use Prim.Native.Nat.{ℕ, suc, ◌≤◌, ◌<◌}
@@ -11,14 +13,15 @@ use mathlib.Core.Bool.{Bool, true, false}
 use mathlib.Core.List.{List}
 use borrow.Author.Tests.{eq-eqb, ne_eqb}
 use lib.Dec.{eqb}
-use lib.ListN.{replicate, get_or-replicate}
+use lib.ListN.{length, take, replicate, get_or-replicate}
+use Rattle.std.proofs.lemmas.List.{length-take-le, get_or-take}
 use Rattle.theory.specs.Graph.{Graph, Wired}
 use Rattle.theory.specs.Walk.{Walk, one, more, registers, delays, walk_steps, Loop}
 use Rattle.theory.specs.inner.Labels.{Empty, Chain}
 use Rattle.theory.specs.inner.Arrival.{Arrival}
 use Rattle.theory.proofs.walks.Loops.{long_loop, rank_no_loop}
 use Rattle.theory.proofs.walks.Walks.{walk_start}
-use Rattle.graph.specs.Columns.{at, column_graph}
+use Rattle.graph.specs.Columns.{at, flag, column_graph}
 use Rattle.graph.specs.Layers.{Told}
 use Rattle.graph.specs.inner.Laid.{From, Laid}
 use Rattle.graph.specs.inner.Marks.{Above, mark_of}
@@ -30,6 +33,17 @@ laid_wired f kind = record { src_in = f.from_in; dst_in = f.to_in }
 -- A column of m numbers that are all x.
 pub same_at : (m x : ℕ) {n : ℕ} → n ≤ m → (v : ℕ) → v < n → at (replicate m x) v ≡ x
 same_at m x l v h = get_or-replicate m v x 0 (omega arith)
+
+pub none_marked : (m : ℕ) {n : ℕ} → n ≤ m → (v : ℕ) → v < n → flag (replicate m false) v ≡ false
+none_marked m l v h = get_or-replicate m v false false (omega arith)
+
+pub above_cut : (xs : List ℕ) (n p : ℕ) (b : Bool) → n ≤ length xs → Told b (Above (take n xs) (length (take n xs)) p) → Told b (Above xs n p)
+above_cut xs n p true h a =
+    let low : a.node < n = omega (arith, a.within, length-take-le n xs h) in
+    record { node = a.node; within = low; above = omega (arith, a.above, get_or-take n xs a.node 0 low) }
+above_cut xs n p false h a = λ x.
+    let e = get_or-take n xs x.node 0 x.within in
+    a (record { node = x.node; within = omega (arith, x.within, length-take-le n xs h); above = omega (arith, e, x.above) })
 
 -- A value on the nodes: n at each of them.
 abbrev Even : Graph → (ℕ → ℕ) → ℕ → Type 0

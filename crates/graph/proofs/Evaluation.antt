@@ -6,16 +6,23 @@
 --   found_ordered       without a loop it has all nodes
 use Prim.Native.Nat.{ℕ, zero, suc, ◌+◌, ◌≤◌, ◌<◌}
 use native.Mathlib.Omega.{arith}
-use native.Mathlib.Decide.{ℕ_discrete, dec_lt}
-use mathlib.Core.Path.{◌≡◌, sym}
+use native.Mathlib.Decide.{dec_lt}
+use mathlib.Core.Path.{◌≡◌, sym, ◌∙◌}
 use mathlib.Core.List.{List, []}
+use mathlib.Core.Bool.{true, false}
+use mathlib.Core.Logic.{◌⊎◌, inl, inr}
+use Rattle.std.proofs.lemmas.Bool.{true≢false, cases_Bool}
 use borrow.Author.Tests.{lt-ltb, le-ltb}
 use lib.Dec.{ltb}
 use Rattle.theory.specs.Graph.{Graph, Wired}
 use Rattle.theory.specs.Walk.{Walk, one, more, registers, walk_steps, Loop}
 use Rattle.theory.proofs.walks.Walks.{walk_start}
 use Rattle.theory.proofs.walks.Loops.{Bare, bare_one, bare_more, long_loop}
-use Rattle.graph.specs.Columns.{at, column_graph}
+use Rattle.graph.specs.declared.wires.Wires.{Wires}
+use Rattle.graph.specs.declared.both_ways.BothWays.{BothWays}
+use Rattle.graph.specs.declared.order.Placing.{Placing}
+use Rattle.graph.specs.Columns.{at, flag, column_graph}
+use Rattle.graph.specs.Wires.{wires_graph}
 use Rattle.graph.specs.Layers.{Told}
 use Rattle.graph.specs.inner.Sort.{Ordered}
 use Rattle.graph.specs.inner.Order.{Going, Found}
@@ -62,52 +69,53 @@ module _ {nodes edges : ℕ} {from to count order : List ℕ} (s : Ordered nodes
 
 -- ── The end ─────────────────────────────────────────────────────────────────────────────────
 
-module _ {nodes edges : ℕ} {from to count ins first outs leave past order mark : List ℕ} {placed i : ℕ}
-    (s : Going nodes edges from to count ins first outs leave past order mark placed i) (h : placed ≤ i) where
-  all_placed : placed ≡ nodes → Ordered nodes edges from to count order
+module _ {g : BothWays} {p : Placing} {i : ℕ} (s : Going g p i) (h : p.placed ≤ i) where
+  all_placed : p.placed ≡ g.wires.nodes → Ordered g.wires.nodes g.wires.edges g.wires.from.now g.wires.to.now g.count.now p.order
   all_placed q =
-      let inside : (p : ℕ) → p < nodes → at order p < nodes = λ p l. s.stage.listed.nodes_only p (omega arith) in
+      let inside : (j : ℕ) → j < g.wires.nodes → at p.order j < g.wires.nodes = λ j l. s.stage.listed.nodes_only j (omega arith) in
       record {
         nodes_only = inside;
-        every_node = λ v. once_whole order nodes v (λ p m l k. s.stage.listed.once p m l (omega arith)) inside;
-        sources_first = λ p e l. s.stage.sources_first p e (omega arith);
+        every_node = λ v. once_whole p.order g.wires.nodes v (λ j m l k. s.stage.listed.once j m l (omega arith)) inside;
+        sources_first = λ j e l. s.stage.sources_first j e (omega arith);
       }
 
   -- A node without a place waits for an open edge, and that leaves another, since all nodes of the order are taken.
-  fed : (v : ℕ) → v < nodes → at mark v ≡ 0 → (e : ℕ) × (e < edges) × (at to e ≡ v) × (at count e ≡ 0) × (at mark (at from e) ≡ 0)
+  fed : (v : ℕ) → v < g.wires.nodes → flag p.mark v ≡ false
+      → (e : ℕ) × (e < g.wires.edges) × (at g.wires.to.now e ≡ v) × (at g.count.now e ≡ 0) × (flag p.mark (at g.wires.from.now e) ≡ false)
   fed v l z =
       let o = s.waiting v l z in
-      (o.edge, o.within, o.enters, s.stage.bare o.edge o.within o.is_open, source o.edge o.within o.is_open (ℕ_discrete (at mark (at from o.edge)) 0))
+      (o.edge, o.within, o.enters, s.stage.bare o.edge o.within o.is_open, source o.edge o.within o.is_open (cases_Bool (flag p.mark (at g.wires.from.now o.edge))))
     where
-      source : (e : ℕ) → e < edges → at past e ≡ 0 → Dec (at mark (at from e) ≡ 0) → at mark (at from e) ≡ 0
-      source e k c (yes q) = q
-      source e k c (no q) =
-          let t = s.stage.listed.stands (at from e) (s.stage.laid.from_in e k) q in
-          absurd (s.spent t.place e (omega (arith, t.within)) k (sym t.holds) c)
+      source : (e : ℕ) → e < g.wires.edges → flag p.is_open e ≡ true → (flag p.mark (at g.wires.from.now e) ≡ true) ⊎ (flag p.mark (at g.wires.from.now e) ≡ false)
+          → flag p.mark (at g.wires.from.now e) ≡ false
+      source e k c (inr q) = q
+      source e k c (inl q) =
+          let t = s.stage.listed.stands (at g.wires.from.now e) (g.wires.laid.from_in e k) q in
+          absurd (true≢false (sym c ∙ s.spent t.place e (omega (arith, t.within)) k (sym t.holds)))
 
-  some_waits : placed < nodes → (kind : List ℕ) → Loop (column_graph nodes edges kind from to) (at count)
+  some_waits : p.placed < g.wires.nodes → (kind : List ℕ) → Loop (wires_graph kind g.wires) (at g.count.now)
   some_waits l kind =
-      let o = left_out order placed nodes l in
-      stuck_loop (laid_wired s.stage.laid kind) (λ v. at mark v ≡ 0) fed o.0 o.1 (bare o.0 o.1 o.2 (ℕ_discrete (at mark o.0) 0))
+      let o = left_out p.order p.placed g.wires.nodes l in
+      stuck_loop (laid_wired g.wires.laid kind) (λ v. flag p.mark v ≡ false) fed o.0 o.1 (bare o.0 o.1 o.2 (cases_Bool (flag p.mark o.0)))
     where
-      bare : (v : ℕ) → v < nodes → ((p : ℕ) → p < placed → ¬ (at order p ≡ v)) → Dec (at mark v ≡ 0) → at mark v ≡ 0
-      bare v k n (yes q) = q
-      bare v k n (no q) = let t = s.stage.listed.stands v k q in absurd (n t.place t.within t.holds)
+      bare : (v : ℕ) → v < g.wires.nodes → ((j : ℕ) → j < p.placed → ¬ (at p.order j ≡ v)) → (flag p.mark v ≡ true) ⊎ (flag p.mark v ≡ false) → flag p.mark v ≡ false
+      bare v k n (inr q) = q
+      bare v k n (inl q) = let t = s.stage.listed.stands v k q in absurd (n t.place t.within t.holds)
 
-  pub going_found : Found nodes edges from to count placed order
+  pub going_found : Found g.wires g.count.now p
   going_found = record { few = stage_few s.stage; whole = all_placed; stuck = some_waits }
 
-module _ {nodes edges : ℕ} {from to count : List ℕ} {placed : ℕ} {order : List ℕ} (s : Found nodes edges from to count placed order) where
-  pub found_told : (kind : List ℕ) → Told (ltb placed nodes) (Loop (column_graph nodes edges kind from to) (at count))
-  found_told kind = go (dec_lt placed nodes)
+module _ {w : Wires} {count : List ℕ} {p : Placing} (s : Found w count p) where
+  pub found_told : (kind : List ℕ) → Told (ltb p.placed w.nodes) (Loop (wires_graph kind w) (at count))
+  found_told kind = go (dec_lt p.placed w.nodes)
     where
-      go : Dec (placed < nodes) → Told (ltb placed nodes) (Loop (column_graph nodes edges kind from to) (at count))
-      go (yes l) = rw (lt-ltb placed nodes l) (s.stuck l kind)
-      go (no l) = rw (le-ltb placed nodes (omega arith)) (ordered_no_loop (s.whole (omega (arith, s.few))) kind)
+      go : Dec (p.placed < w.nodes) → Told (ltb p.placed w.nodes) (Loop (wires_graph kind w) (at count))
+      go (yes l) = rw (lt-ltb p.placed w.nodes l) (s.stuck l kind)
+      go (no l) = rw (le-ltb p.placed w.nodes (omega arith)) (ordered_no_loop (s.whole (omega (arith, s.few))) kind)
 
-  pub found_ordered : ((kind : List ℕ) → ¬ Loop (column_graph nodes edges kind from to) (at count)) → Ordered nodes edges from to count order
-  found_ordered none = go (dec_lt placed nodes)
+  pub found_ordered : ((kind : List ℕ) → ¬ Loop (wires_graph kind w) (at count)) → Ordered w.nodes w.edges w.from.now w.to.now count p.order
+  found_ordered none = go (dec_lt p.placed w.nodes)
     where
-      go : Dec (placed < nodes) → Ordered nodes edges from to count order
+      go : Dec (p.placed < w.nodes) → Ordered w.nodes w.edges w.from.now w.to.now count p.order
       go (yes l) = absurd (none [] (s.stuck l []))
       go (no l) = s.whole (omega (arith, s.few))

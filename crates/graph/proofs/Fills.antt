@@ -1,13 +1,13 @@
 -- Lists that loops fill, one store a turn.
 --   fill_with           from the front: one element further, whatever is said of each
 --   fill_more           so where each is f of its place
---   appended_none, appended_more, appended_cut    from a place on: none yet, one further, all of them
+--   appended_more       from a place on: one further
 --   filtered_none, filtered_hit, filtered_miss    with the members of another list that have a property: none yet; the next has it, or not
-use Prim.Native.Nat.{ℕ, suc, ◌+◌, ◌-◌, ◌≤◌, ◌<◌}
+use Prim.Native.Nat.{ℕ, suc, ◌+◌, ◌≤◌, ◌<◌}
 use native.Mathlib.Omega.{arith}
 use native.Mathlib.Numerals.{add-one}
 use native.Mathlib.Decide.{ℕ_discrete}
-use mathlib.Core.Path.{◌≡◌, refl, sym, subst, ap, ◌∙◌}
+use mathlib.Core.Path.{◌≡◌, sym, subst, ap, ◌∙◌}
 use mathlib.Core.List.{List}
 use lib.ListN.{length, set, length-set}
 use lib.Seq.{get_or-set_same, get_or-set_other}
@@ -33,9 +33,6 @@ fill_more f = fill_with (λ k x. x ≡ f k)
 -- ── From a place on ─────────────────────────────────────────────────────────────────────────
 
 module _ (f : ℕ → ℕ) where
-  pub appended_none : (old : List ℕ) (lo start : ℕ) → Appended f old old lo lo start
-  appended_none old lo start = record { rows = refl; kept = λ j h. refl; added = λ k h. absurd (let z : ⊥ = omega arith in z) }
-
   pub appended_more : (old new : List ℕ) (lo k start n x : ℕ) → Appended f old new lo k start → lo ≤ k → n + lo ≡ start + k → n < length new → x ≡ f k
       → Appended f old (set new n x) lo (k + 1) start
   appended_more old new lo k start n x s l q h e = record {
@@ -48,11 +45,6 @@ module _ (f : ℕ → ℕ) where
       go i m (yes y) =
           ap (at (set new n x)) (let z : start + i ≡ n = omega arith in z) ∙ get_or-set_same new n x 0 h ∙ e ∙ ap f (sym y)
       go i m (no y) = get_or-set_other new n (start + i) x 0 (let z : ¬ (start + i ≡ n) = λ w. omega arith in z) ∙ s.added i (omega arith)
-
-  -- All of those up to hi are put, which may be none.
-  pub appended_cut : (old new : List ℕ) (lo hi k start n : ℕ) → Appended f old new lo k start → lo ≤ k → hi ≤ k → k ≤ lo + (hi - lo) → n + lo ≡ start + k
-      → (n ≡ start + (hi - lo)) × Appended f old new lo hi start
-  appended_cut old new lo hi k start n s l h u q = (omega arith, record { rows = s.rows; kept = s.kept; added = λ i m. s.added i (omega arith) })
 
 -- ── With the members that have a property ───────────────────────────────────────────────────
 

@@ -15,7 +15,6 @@ pub mod Spread
 pub mod Passes
 -- The evaluation order.
 pub mod Stage
-pub mod Taking
 pub mod Evaluation
 -- For users: reach from inputs and to outputs; loops.
 pub mod Laws

@@ -11,12 +11,14 @@ use native.Mathlib.Omega.{arith}
 use native.Mathlib.Decide.{ℕ_discrete, dec_lt}
 use mathlib.Core.Path.{◌≡◌, sym, ap, ◌∙◌}
 use mathlib.Core.List.{List}
+use mathlib.Core.Bool.{Bool, true, false}
+use Rattle.std.proofs.lemmas.Bool.{true≢false}
 use mathlib.Core.Logic.{◌⊎◌, inl, inr, ⊎_elim}
 use lib.ListN.{length, set}
 use lib.Seq.{get_or-set_same, get_or-set_other}
 use Rattle.theory.proofs.numbers.Find.{any, all?, not?}
 use Rattle.theory.proofs.numbers.Pigeon.{no_injection, cons}
-use Rattle.graph.specs.Columns.{at}
+use Rattle.graph.specs.Columns.{at, flag}
 use Rattle.graph.specs.inner.Sort.{Stands}
 use Rattle.graph.specs.inner.Lists.{Once, Listed}
 use Rattle.graph.proofs.Sets.{set_stands}
@@ -73,26 +75,26 @@ left_out xs k n h =
         let q : u ≡ v = sym (found none u (omega arith)).1 ∙ ap (at xs) e ∙ (found none v (omega arith)).1 in
         omega arith
 
-pub listed_none : (nodes : ℕ) (list mark : List ℕ) → ((v : ℕ) → v < nodes → at mark v ≡ 0) → Listed nodes 0 list mark
+pub listed_none : (nodes : ℕ) (list : List ℕ) (mark : List Bool) → ((v : ℕ) → v < nodes → flag mark v ≡ false) → Listed nodes 0 list mark
 listed_none nodes list mark bare = record {
   nodes_only = λ p h. absurd (let z : ⊥ = omega arith in z);
   once = λ p q l h. absurd (let z : ⊥ = omega arith in z);
   marked = λ p h. absurd (let z : ⊥ = omega arith in z);
-  stands = λ v h z. absurd (z (bare v h));
+  stands = λ v h z. absurd (true≢false (sym z ∙ bare v h));
 }
 
-module _ (nodes n : ℕ) (list mark : List ℕ) (s : Listed nodes n list mark) (v : ℕ) (h : v < nodes) (bare : at mark v ≡ 0) where
+module _ (nodes n : ℕ) (list : List ℕ) (mark : List Bool) (s : Listed nodes n list mark) (v : ℕ) (h : v < nodes) (bare : flag mark v ≡ false) where
   other : (p : ℕ) → p < n → ¬ (at list p ≡ v)
-  other p l e = omega (arith, s.marked p l, ap (at mark) e)
+  other p l e = true≢false (sym (s.marked p l) ∙ ap (flag mark) e ∙ bare)
 
   pub listed_room : n < nodes
   listed_room = once_room list n nodes v s.once s.nodes_only h other
 
-  pub listed_more : n < length list → v < length mark → Listed nodes (n + 1) (set list n v) (set mark v 1)
+  pub listed_more : n < length list → v < length mark → Listed nodes (n + 1) (set list n v) (set mark v true)
   listed_more a b = record {
     nodes_only = fill_with (λ p x. x < nodes) list n v a h s.nodes_only;
     once = λ p q l m. differ p q l (ℕ_discrete q n) m;
-    marked = fill_with (λ p x. at (set mark v 1) x ≡ 1) list n v a (get_or-set_same mark v 1 0 b) (λ p l. get_or-set_other mark v (at list p) 1 0 (other p l) ∙ s.marked p l);
+    marked = fill_with (λ p x. flag (set mark v true) x ≡ true) list n v a (get_or-set_same mark v true false b) (λ p l. get_or-set_other mark v (at list p) true false (other p l) ∙ s.marked p l);
     stands = λ w l z. one w l z (ℕ_discrete w v);
   }
     where
@@ -105,8 +107,8 @@ module _ (nodes n : ℕ) (list mark : List ℕ) (s : Listed nodes n list mark) (
       differ p q l (no e) m = λ i.
           s.once p q l (omega arith) (sym (get_or-set_other list n p v 0 (let z : ¬ (p ≡ n) = λ y. omega arith in z)) ∙ i ∙ get_or-set_other list n q v 0 e)
 
-      one : (w : ℕ) → w < nodes → ¬ (at (set mark v 1) w ≡ 0) → Dec (w ≡ v) → Stands new (n + 1) w
+      one : (w : ℕ) → w < nodes → flag (set mark v true) w ≡ true → Dec (w ≡ v) → Stands new (n + 1) w
       one w l z (yes e) = record { place = n; within = omega arith; holds = get_or-set_same list n v 0 a ∙ sym e }
       one w l z (no e) =
-          let t = set_stands list n v n w (omega arith) (s.stands w l (λ y. z (get_or-set_other mark v w 1 0 e ∙ y))) in
+          let t = set_stands list n v n w (omega arith) (s.stands w l (sym (get_or-set_other mark v w true false e) ∙ z)) in
           record { place = t.place; within = omega (arith, t.within); holds = t.holds }

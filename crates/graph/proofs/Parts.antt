@@ -1,12 +1,16 @@
 -- Parts of lists, through a function.
 --   part_map            over a stretch the one list has f of the other's members
 --   map_at              a member of a list through a function
-use Prim.Native.Nat.{ℕ, zero, suc, ◌+◌, ◌≤◌, ◌<◌}
+--   range_at            a member of a part of a list
+--   range_length        how long the part is
+use Prim.Native.Nat.{ℕ, zero, suc, ◌+◌, ◌-◌, ◌≤◌, ◌<◌}
 use native.Mathlib.Omega.{arith}
 use mathlib.Core.Path.{◌≡◌, refl, ap, ap₂, ◌∙◌}
 use mathlib.Core.List.{List, [], ◌∷◌, map}
 use lib.ListN.{length, take, drop}
 use lib.Seq.{drop-cons}
+use Rattle.std.specs.Prelude.{slice_range}
+use Rattle.std.proofs.lemmas.List.{get_or-take, get_or-drop, length-take-le, length-drop}
 use Rattle.graph.specs.Columns.{at}
 
 pub part_map : (f : ℕ → ℕ) (xs ys : List ℕ) (n a b : ℕ) → a + n ≤ length ys → b + n ≤ length xs → ((k : ℕ) → k < n → at ys (a + k) ≡ f (at xs (b + k)))
@@ -24,3 +28,9 @@ pub map_at : (f : ℕ → ℕ) (xs : List ℕ) (k : ℕ) → k < length xs → a
 map_at f [] k h = absurd (omega arith)
 map_at f (x ∷ xs) zero h = refl
 map_at f (x ∷ xs) (suc k) h = map_at f xs k (omega arith)
+
+pub range_at : (xs : List ℕ) (lo hi k : ℕ) → lo + k < hi → at (slice_range xs lo hi) k ≡ at xs (lo + k)
+range_at xs lo hi k h = get_or-take (hi - lo) (drop lo xs) k 0 (omega arith) ∙ get_or-drop lo xs k 0
+
+pub range_length : (xs : List ℕ) (lo hi : ℕ) → hi ≤ length xs → length (slice_range xs lo hi) ≡ hi - lo
+range_length xs lo hi h = length-take-le (hi - lo) (drop lo xs) (omega (arith, length-drop {A = ℕ}))

@@ -17,39 +17,34 @@ use native.Mathlib.Decide.{ℕ_discrete, dec_lt}
 use mathlib.Core.Path.{◌≡◌, refl, sym, subst, ap, ◌∙◌}
 use mathlib.Core.Logic.{◌⊎◌, inl, inr, ⊎_elim}
 use mathlib.Core.List.{List}
-use borrow.Author.Tests.{eq-eqb, ne_eqb}
+use mathlib.Core.Bool.{Bool, true, false}
+use Rattle.std.proofs.lemmas.Bool.{true≢false}
 use borrow.Author.Count.{below_more}
-use lib.Dec.{eqb}
 use Rattle.theory.specs.Graph.{Graph, Wired}
 use Rattle.theory.specs.Walk.{Walk, one, more, walk_steps}
 use Rattle.theory.proofs.numbers.Find.{any}
 use Rattle.graph.specs.declared.layers.Layer.{Layer}
-use Rattle.graph.specs.Columns.{at, column_graph}
+use Rattle.graph.specs.declared.wires.Wires.{Wires}
+use Rattle.graph.specs.Columns.{at, flag}
+use Rattle.graph.specs.Wires.{wires_graph}
 use Rattle.graph.specs.Layers.{Told, FromWithin, Layered, NewAt, LayerFrom}
-use Rattle.graph.specs.inner.Laid.{From, Laid}
+use Rattle.graph.specs.inner.Laid.{From}
 use Rattle.graph.specs.inner.Sort.{Stands}
 use Rattle.graph.specs.inner.Layers.{Spread, Steady, AfterPasses, PassLeaves}
 use Rattle.graph.proofs.Spread.{queued_stands, PinBelow, Fed}
 
 -- ── Marks ───────────────────────────────────────────────────────────────────────────────────
 
-module _ {x : ℕ} {P : Type 0} where
-  pub marked_has : Told (eqb x 1) P → x ≡ 1 → P
-  marked_has t e = rw (eq-eqb x 1 e) at t
+pub marked_has : {x : Bool} {P : Type 0} → Told x P → x ≡ true → P
+marked_has t e = rw e at t
 
-  pub has_marked : Told (eqb x 1) P → P → x ≡ 1
-  has_marked t p = go (ℕ_discrete x 1)
-    where
-      go : Dec (x ≡ 1) → x ≡ 1
-      go (yes e) = e
-      go (no e) = absurd ((rw (ne_eqb x 1 e) at t) p)
+pub has_marked : {x : Bool} {P : Type 0} → Told x P → P → x ≡ true
+has_marked {x = true} t p = refl
+has_marked {x = false} t p = absurd (t p)
 
-  pub mark_tells : (x ≡ 1 → P) → (P → x ≡ 1) → Told (eqb x 1) P
-  mark_tells f g = go (ℕ_discrete x 1)
-    where
-      go : Dec (x ≡ 1) → Told (eqb x 1) P
-      go (yes e) = rw (eq-eqb x 1 e) (f e)
-      go (no e) = rw (ne_eqb x 1 e) (λ p. e (g p))
+pub mark_tells : {x : Bool} {P : Type 0} → (x ≡ true → P) → (P → x ≡ true) → Told x P
+mark_tells {x = true} f g = f refl
+mark_tells {x = false} f g = λ p. true≢false (sym (g p))
 
 -- ── Walks of so many edges ──────────────────────────────────────────────────────────────────
 
@@ -121,89 +116,85 @@ within? {G} i pin (suc n) v h = go (λ u l. within? i pin n u l) (within? i pin 
 
 -- ── Before the first pass ───────────────────────────────────────────────────────────────────
 
-pub first_after : {nodes held pin : ℕ} {kind old zeros queue marks : List ℕ} → ((v : ℕ) → v < nodes → at zeros v ≡ 0)
-    → Spread nodes (PinBelow kind pin nodes) old zeros 0 queue marks held
-    → (edges : ℕ) (from to : List ℕ) → AfterPasses nodes edges kind pin from to (record { passes = 0; lo = 0; hi = held; queue = queue; marks = marks })
-first_after bare s edges from to = record {
+pub first_after : {w : Wires} {pin : ℕ} {kind : List ℕ} {none layer : Layer} → ((v : ℕ) → v < w.nodes → flag none.marks v ≡ false) → none.passes ≡ 0 → none.lo ≡ 0
+    → Spread w.nodes (PinBelow kind pin w.nodes) none layer → AfterPasses w kind pin layer
+first_after {w} {pin} {kind} {none} {layer} bare p o s = record {
   steady = record {
     queued = s.queued;
-    low = omega arith;
-    few = omega arith;
-    past = λ e h t. absurd (let z : ⊥ = omega (arith, t.within) in z);
+    low = omega (arith, s.begins);
+    few = omega (arith, s.passes);
+    past = λ e h t. absurd (let z : ⊥ = omega (arith, t.within, s.begins) in z);
   };
-  layered = λ v h. mark_tells
-      (λ e. ⊎_elim (λ y. absurd (let z : ⊥ = omega (arith, bare v h) in z)) (λ x. within_pin h x.1) (s.only v h e))
-      (λ w. s.fed v h (h, within_none w));
-  going = λ n l. absurd (let z : ⊥ = omega arith in z);
-  early = λ i l. absurd (let z : ⊥ = omega arith in z);
-  late = λ i m k l o w. absurd (let z : ⊥ = omega arith in z);
+  layered = λ v h. subst (λ n. Told (flag layer.marks v) (FromWithin (wires_graph kind w) pin n v)) (sym (s.passes ∙ p)) (mark_tells
+      (λ e. ⊎_elim (λ y. absurd (true≢false (sym y ∙ bare v h))) (λ x. within_pin h x.1) (s.only v h e))
+      (λ r. s.fed v h (h, within_none r)));
+  going = λ n l. absurd (let z : ⊥ = omega (arith, s.passes) in z);
+  early = λ i l. absurd (let z : ⊥ = omega (arith, s.begins) in z);
+  late = λ i m k l n r. absurd (let z : ⊥ = omega (arith, s.passes) in z);
 }
 
 -- ── A pass ──────────────────────────────────────────────────────────────────────────────────
 
 -- A node is marked after the pass where it was marked, or where an edge from a node in the queue enters it: one from a place before lo ends in a node
 -- that was marked, and those from the other places were looked at.
-module _ {nodes edges : ℕ} {from to : List ℕ} (f : Laid nodes edges from to) (before : Layer) (b : Steady nodes edges from to before)
-    {queue marks : List ℕ} {held : ℕ}
-    (s : Spread nodes (Fed edges from to before.queue before.lo before.hi) before.queue before.marks before.hi queue marks held) where
-  end_marked : (e : ℕ) → e < edges → Stands before.queue before.hi (at from e) → at marks (at to e) ≡ 1
+module _ {w : Wires} (before : Layer) (b : Steady w before) {layer : Layer} (s : Spread w.nodes (Fed w before.queue before.lo before.hi) before layer) where
+  end_marked : (e : ℕ) → e < w.edges → Stands before.queue before.hi (at w.from.now e) → flag layer.marks (at w.to.now e) ≡ true
   end_marked e h t = go (dec_lt t.place before.lo)
     where
-      go : Dec (t.place < before.lo) → at marks (at to e) ≡ 1
-      go (yes l) = s.stay (at to e) (f.to_in e h) (b.past e h (record { place = t.place; within = l; holds = t.holds }))
-      go (no l) = s.fed (at to e) (f.to_in e h) (record { edge = e; inside = h; place = t.place; above = omega arith; below = t.within; leaves = t.holds; enters = refl })
+      go : Dec (t.place < before.lo) → flag layer.marks (at w.to.now e) ≡ true
+      go (yes l) = s.stay _ (w.laid.to_in e h) (b.past e h (record { place = t.place; within = l; holds = t.holds }))
+      go (no l) = s.fed _ (w.laid.to_in e h) (record { edge = e; inside = h; place = t.place; above = omega arith; below = t.within; leaves = t.holds; enters = refl })
 
-  layered : (kind : List ℕ) (pin : ℕ) → Layered (column_graph nodes edges kind from to) pin before.passes before.marks
-      → Layered (column_graph nodes edges kind from to) pin (before.passes + 1) marks
-  layered kind pin w v h = mark_tells (λ e. ⊎_elim (λ y. within_later (marked_has (w v h) y)) by_edge (s.only v h e)) back
+  layered : (kind : List ℕ) (pin : ℕ) → Layered (wires_graph kind w) pin before.passes before.marks
+      → Layered (wires_graph kind w) pin (before.passes + 1) layer.marks
+  layered kind pin r v h = mark_tells (λ e. ⊎_elim (λ y. within_later (marked_has (r v h) y)) by_edge (s.only v h e)) back
     where
-      by_edge : Fed edges from to before.queue before.lo before.hi v → FromWithin (column_graph nodes edges kind from to) pin (before.passes + 1) v
+      by_edge : Fed w before.queue before.lo before.hi v → FromWithin (wires_graph kind w) pin (before.passes + 1) v
       by_edge x =
-          let u : at before.marks (at from x.edge) ≡ 1 = ap (at before.marks) (sym x.leaves) ∙ b.queued.listed.marked x.place x.below in
-          subst (FromWithin (column_graph nodes edges kind from to) pin (before.passes + 1)) x.enters
-          (within_edge x.edge x.inside (marked_has (w (at from x.edge) (f.from_in x.edge x.inside)) u))
+          let u : flag before.marks (at w.from.now x.edge) ≡ true = ap (flag before.marks) (sym x.leaves) ∙ b.queued.listed.marked x.place x.below in
+          subst (FromWithin (wires_graph kind w) pin (before.passes + 1)) x.enters
+          (within_edge x.edge x.inside (marked_has (r (at w.from.now x.edge) (w.laid.from_in x.edge x.inside)) u))
 
-      back : FromWithin (column_graph nodes edges kind from to) pin (before.passes + 1) v → at marks v ≡ 1
-      back r = ⊎_elim
-          (λ y. s.stay v h (has_marked (w v h) y))
-          (λ x. let l = f.from_in x.0 x.1 in
-          subst (λ y. at marks y ≡ 1) x.2 (end_marked x.0 x.1 (queued_stands b.queued l (has_marked (w (at from x.0) l) x.3))))
-          (within_split r)
+      back : FromWithin (wires_graph kind w) pin (before.passes + 1) v → flag layer.marks v ≡ true
+      back y = ⊎_elim
+          (λ y. s.stay v h (has_marked (r v h) y))
+          (λ x. let l = w.laid.from_in x.0 x.1 in
+          subst (λ y. flag layer.marks y ≡ true) x.2 (end_marked x.0 x.1 (queued_stands b.queued l (has_marked (r (at w.from.now x.0) l) x.3))))
+          (within_split y)
 
-  pub pass_leaves : before.lo < before.hi
-      → PassLeaves nodes edges from to before (record { passes = before.passes + 1; lo = before.hi; hi = held; queue = queue; marks = marks })
+  pub pass_leaves : before.lo < before.hi → PassLeaves w before (record layer { passes = layer.passes + 1; lo = before.hi })
   pass_leaves l = record {
-    passes = refl;
+    passes = ap (λ n. n + 1) s.passes;
     goes_on = refl;
     steady = record {
-      queued = s.queued;
+      queued = record { nodes_fit = s.queued.nodes_fit; queue_rows = s.queued.queue_rows; mark_rows = s.queued.mark_rows; listed = s.queued.listed };
       low = s.longer;
-      few = omega (arith, b.few);
+      few = omega (arith, b.few, s.passes);
       past = λ e h t. end_marked e h (record { place = t.place; within = t.within; holds = sym (s.front t.place t.within) ∙ t.holds });
     };
-    layered = layered;
-    early = λ i j. ap (at before.marks) (s.front i j) ∙ b.queued.listed.marked i j;
+    layered = λ kind pin r. subst (λ n. Layered (wires_graph kind w) pin n layer.marks) (ap (λ n. n + 1) (sym s.passes)) (layered kind pin r);
+    early = λ i j. ap (flag before.marks) (s.front i j) ∙ b.queued.listed.marked i j;
     late = λ i j k e.
         let t = queued_stands b.queued (s.queued.listed.nodes_only i k) e in
         s.queued.listed.once t.place i (omega (arith, t.within)) k (s.front t.place t.within ∙ t.holds);
   }
 
 -- The node at place lo was marked by the last pass and by none before it, so one more pass that marked something is counted.
-pub after_pass : {nodes edges pin : ℕ} {kind from to : List ℕ} (before after : Layer) → AfterPasses nodes edges kind pin from to before → before.lo < before.hi
-    → PassLeaves nodes edges from to before after → AfterPasses nodes edges kind pin from to after
-after_pass {nodes} {edges} {pin} {kind} {from} {to} before after a l p = record {
+pub after_pass : {w : Wires} {pin : ℕ} {kind : List ℕ} (before after : Layer) → AfterPasses w kind pin before → before.lo < before.hi
+    → PassLeaves w before after → AfterPasses w kind pin after
+after_pass {w} {pin} {kind} before after a l p = record {
   steady = p.steady;
   layered = p.layered kind pin a.layered;
   going = λ n k. below_more (NewAt G pin) before.passes a.going new n (omega (arith, p.passes));
   early = λ i k. (before.passes, omega (arith, p.passes), marked_has (a.layered (at after.queue i) (there i (omega (arith, p.steady.low)))) (p.early i k));
-  late = λ i m j k o w.
-      p.late i j k (has_marked (a.layered (at after.queue i) (there i k)) (within_more (omega (arith, p.passes)) w));
+  late = λ i m j k o r.
+      p.late i j k (has_marked (a.layered (at after.queue i) (there i k)) (within_more (omega (arith, p.passes)) r));
 }
   where
     G : Graph
-    G = column_graph nodes edges kind from to
+    G = wires_graph kind w
 
-    there : (i : ℕ) → i < after.hi → at after.queue i < nodes
+    there : (i : ℕ) → i < after.hi → at after.queue i < w.nodes
     there = p.steady.queued.listed.nodes_only
 
     new : NewAt G pin before.passes
@@ -214,42 +205,30 @@ after_pass {nodes} {edges} {pin} {kind} {from} {to} before after a l p = record 
 
 -- ── After the last pass ─────────────────────────────────────────────────────────────────────
 
--- The last pass marked nothing, so every edge from a marked node ends in one: along a walk from a pin all nodes are marked.
-module _ {nodes edges pin : ℕ} {kind from to : List ℕ} (f : Laid nodes edges from to) (last : Layer) (a : AfterPasses nodes edges kind pin from to last)
-    (done : last.hi ≤ last.lo) where
-  walk_marked : {u v : ℕ} → Walk (column_graph nodes edges kind from to) u v → at kind u ≡ pin → at last.marks v ≡ 1
-  walk_marked (one h) q = has_marked (a.layered _ h) (within_pin h q)
-  walk_marked (more e h p) q =
-      let t = queued_stands a.steady.queued (f.from_in e h) (walk_marked p q) in
+module _ {w : Wires} {pin : ℕ} {kind : List ℕ} (last : Layer) (a : AfterPasses w kind pin last) where
+  -- The last pass marked nothing, so every edge from a marked node ends in one: along a walk from a pin all nodes are marked.
+  walk_marked : last.hi ≤ last.lo → {u v : ℕ} → Walk (wires_graph kind w) u v → at kind u ≡ pin → flag last.marks v ≡ true
+  walk_marked done (one h) q = has_marked (a.layered _ h) (within_pin h q)
+  walk_marked done (more e h p) q =
+      let t = queued_stands a.steady.queued (w.laid.from_in e h) (walk_marked done p q) in
       a.steady.past e h (record { place = t.place; within = omega (arith, t.within); holds = t.holds })
 
-  pub reached_told : (v : ℕ) → v < nodes → Told (eqb (at last.marks v) 1) (From (column_graph nodes edges kind from to) pin v)
-  reached_told v h = mark_tells {P = From (column_graph nodes edges kind from to) pin v}
-      (λ e. let w = marked_has (a.layered v h) e in record { start = w.start; kind = w.kind; walk = w.walk })
-      (λ r. walk_marked r.walk r.kind)
+  pub reached_told : last.hi ≤ last.lo → (v : ℕ) → v < w.nodes → Told (flag last.marks v) (From (wires_graph kind w) pin v)
+  reached_told done v h = mark_tells {P = From (wires_graph kind w) pin v}
+      (λ e. let r = marked_has (a.layered v h) e in record { start = r.start; kind = r.kind; walk = r.walk })
+      (λ r. walk_marked done r.walk r.kind)
 
--- ── A walk ──────────────────────────────────────────────────────────────────────────────────
-
-module _ {nodes edges pin most : ℕ} {kind from to : List ℕ} (last : Layer) (a : AfterPasses nodes edges kind pin from to last) where
   -- A node that the last pass marked first would stand at a place from lo on.
-  pub layer_from : last.passes ≤ most → (last.passes < most → last.hi ≤ last.lo) → LayerFrom (column_graph nodes edges kind from to) pin most last
+  pub layer_from : {most : ℕ} → last.passes ≤ most → (last.passes < most → last.hi ≤ last.lo) → LayerFrom (wires_graph kind w) pin most last
   layer_from few ended = record {
     few = few;
     layered = a.layered;
-    bits = λ v h. bit v h (ℕ_discrete (at last.marks v) 0);
     going = a.going;
     ended = λ l x.
         let t = queued_stands a.steady.queued x.there (has_marked (a.layered x.node x.there) x.reached) in
         let e = a.early t.place (omega (arith, t.within, ended l)) in
-        x.first e.0 e.1 (subst (FromWithin (column_graph nodes edges kind from to) pin e.0) t.holds e.2);
+        x.first e.0 e.1 (subst (FromWithin (wires_graph kind w) pin e.0) t.holds e.2);
   }
-    where
-      bit : (v : ℕ) → v < nodes → Dec (at last.marks v ≡ 0) → at last.marks v ≤ 1
-      bit v h (yes z) = omega arith
-      bit v h (no z) =
-          let t = a.steady.queued.listed.stands v h z in
-          let e : at last.marks v ≡ 1 = ap (at last.marks) (sym t.holds) ∙ a.steady.queued.listed.marked t.place t.within in
-          omega arith
 
 -- Where pass n marks nothing, every node that is reached is reached over n edges at most: along a walk, a node that is reached over n and over no fewer
 -- would be new at n, so the next is reached over n too.
@@ -266,7 +245,7 @@ module _ {G : Graph} (i : Wired G) {pin n : ℕ} (none : ¬ NewAt G pin n) where
           go (yes y) = within_more (omega arith) (within_edge e h y)
           go (no y) = absurd (x (record { node = G.src e; there = i.src_in e h; reached = w; first = λ k l z. y (within_more (omega arith) z) }))
 
-  pub settled_told : (marks : List ℕ) → Layered G pin n marks → (v : ℕ) → v < G.nodes → Told (eqb (at marks v) 1) (From G pin v)
+  pub settled_told : (marks : List Bool) → Layered G pin n marks → (v : ℕ) → v < G.nodes → Told (flag marks v) (From G pin v)
   settled_told marks a v h = mark_tells {P = From G pin v}
       (λ e. let w = marked_has (a v h) e in record { start = w.start; kind = w.kind; walk = w.walk })
       (λ r. has_marked (a v h) (settled_within r.walk r.kind))

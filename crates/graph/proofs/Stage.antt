@@ -1,190 +1,203 @@
 -- The evaluation order, one node and one edge further.
---   stage_none          no node has a place yet, and the edges without a register are open
---   stage_place         what `place` asks of a node
---   stage_few           no more nodes have a place than there are
+--   stage_none          no node has a place yet
+--   stage_room, stage_few, stage_short     a node without a place finds room; no more nodes have a place than there are, nor than the order has places
 --   tried_same, tried_grown, tried_stands    trying a node leaves the places in the order as they are
 --   stage_tried         a node is tried
 --   tried_waiting       where all others wait, so does it, or it has its place
---   passed_gone, passed_kept      an edge that is passed is open no more, and no other is opened
---   stage_passed        an edge that leaves a node of the order is passed: it is open no more
---   passed_waiting      then the nodes that it does not enter still wait
---   tried_none, tried_more        the first pass: no node is tried yet, and one more
+--   closed              an edge is passed, and open no more
+--   stage_closed        so where it leaves a node of the order
+--   closed_waiting      then the nodes that it does not enter still wait
+--   taken_more          one more of the edges that leave a node is passed
 use Prim.Native.Nat.{ℕ, ◌+◌, ◌≤◌, ◌<◌}
 use native.Mathlib.Omega.{arith}
 use native.Mathlib.Decide.{ℕ_discrete}
 use mathlib.Core.Path.{◌≡◌, refl, sym, subst, ap, ◌∙◌}
+use mathlib.Core.Logic.{◌⊎◌, inl, inr}
+use mathlib.Core.Bool.{Bool, true, false}
 use mathlib.Core.List.{List}
-use lib.ListN.{length, set, length-set}
+use borrow.Author.Tests.{eq-eqb}
+use lib.Dec.{eqb}
+use lib.ListN.{length, set, length-set, replicate}
 use lib.Seq.{get_or-set_same, get_or-set_other}
-use Rattle.graph.specs.Columns.{at}
-use Rattle.graph.specs.inner.Laid.{Laid}
-use Rattle.graph.specs.inner.Sort.{Stands, EdgesBy}
-use Rattle.graph.specs.inner.Order.{Readable, Waits, Tried, joins, stays, OpenInto, Waiting, Stage, FirstTried}
+use Rattle.std.proofs.lemmas.Bool.{true≢false, cases_Bool, eqb-true}
+use Rattle.graph.specs.declared.both_ways.BothWays.{BothWays}
+use Rattle.graph.specs.declared.order.Placing.{Placing}
+use Rattle.graph.specs.Columns.{at, flag}
+use Rattle.graph.specs.inner.Sort.{Stands, EdgesOf}
+use Rattle.graph.specs.inner.Order.{OpenInto, Waiting, Tried, joins, stays, Stage, Taken}
 use Rattle.graph.proofs.Sets.{set_stands}
 use Rattle.graph.proofs.Once.{once_few, listed_none, listed_room, listed_more}
+use Rattle.graph.proofs.Answers.{none_marked}
 
-pub stage_none : {nodes edges : ℕ} {from to count ins first past order mark : List ℕ} → Laid nodes edges from to → EdgesBy to nodes edges ins first
-    → edges ≤ length past → nodes ≤ length order → nodes ≤ length mark → ((e : ℕ) → e < edges → at past e ≡ at count e) → ((v : ℕ) → v < nodes → at mark v ≡ 0)
-    → Stage nodes edges from to count ins first past order mark 0
-stage_none {nodes} {order = order} {mark = mark} laid entering p o m same bare = record {
-  laid = laid;
-  entering = entering;
-  past_rows = p;
-  order_rows = o;
-  mark_rows = m;
-  listed = listed_none nodes order mark bare;
-  bare = λ e h z. sym (same e h) ∙ z;
-  passed = λ e h z n. absurd (n (same e h ∙ z));
-  sources_first = λ p e h. absurd (let z : ⊥ = omega arith in z);
+module _ {g : BothWays} {p : Placing} (s : Stage g p) where
+  pub stage_room : (v : ℕ) → v < g.wires.nodes → flag p.mark v ≡ false → p.placed < 512
+  stage_room v h z = omega (arith, listed_room _ _ _ _ s.listed v h z, g.wires.laid.nodes_fit)
+
+  pub stage_few : p.placed ≤ g.wires.nodes
+  stage_few = once_few p.order p.placed g.wires.nodes s.listed.once s.listed.nodes_only
+
+  pub stage_short : p.placed ≤ 512
+  stage_short = omega (arith, stage_few, g.wires.laid.nodes_fit)
+
+-- No node has a place yet, and the edges without a register are open.
+pub stage_none : (g : BothWays) (is_open : List Bool) → length is_open ≡ 1024 → ((e : ℕ) → e < g.wires.edges → flag is_open e ≡ eqb (at g.count.now e) 0)
+    → Stage g (record { placed = 0; order = replicate 512 0; mark = replicate 512 false; is_open = is_open })
+stage_none g is_open rows same = record {
+  order_rows = refl;
+  mark_rows = refl;
+  open_rows = rows;
+  listed = listed_none g.wires.nodes (replicate 512 0) (replicate 512 false) (none_marked 512 g.wires.laid.nodes_fit);
+  bare = λ e h z. eqb-true (at g.count.now e) 0 (sym (same e h) ∙ z);
+  passed = λ e h z n. absurd (true≢false (sym (eq-eqb (at g.count.now e) 0 z) ∙ sym (same e h) ∙ n));
+  sources_first = λ i e h. absurd (let z : ⊥ = omega arith in z);
 }
 
-pub passed_gone : (past : List ℕ) (e : ℕ) → e < length past → ¬ (at (set past e 1) e ≡ 0)
-passed_gone past e h z = omega (arith, z, get_or-set_same past e 1 0 h)
+-- ── A node ──────────────────────────────────────────────────────────────────────────────────
 
-pub passed_kept : (past : List ℕ) (e : ℕ) → e < length past → (d : ℕ) → ¬ (at past d ≡ 0) → ¬ (at (set past e 1) d ≡ 0)
-passed_kept past e h d n = go (ℕ_discrete d e)
-  where
-    go : Dec (d ≡ e) → ¬ (at (set past e 1) d ≡ 0)
-    go (yes q) = λ z. passed_gone past e h (ap (at (set past e 1)) (sym q) ∙ z)
-    go (no q) = λ z. n (sym (get_or-set_other past e d 1 0 q) ∙ z)
+module _ {g : BothWays} {p : Placing} {v : ℕ} {new : Placing} where
+  pub tried_open : Tried g p v new → new.is_open ≡ p.is_open
+  tried_open (joins z w e) = ap (λ q. q.is_open) e
+  tried_open (stays w e) = ap (λ q. q.is_open) e
 
-module _ {ins first past : List ℕ} {v : ℕ} {order mark : List ℕ} {placed : ℕ} {order' mark' : List ℕ} {r : ℕ} where
-  pub tried_same : Tried ins first past v order mark placed order' mark' r → (p : ℕ) → p < placed → at order' p ≡ at order p
-  tried_same (joins z w o m q) p l = ap (λ xs. at xs p) o ∙ get_or-set_other order placed p v 0 (let y : ¬ (p ≡ placed) = λ i. omega arith in y)
-  tried_same (stays w o m q) p l = ap (λ xs. at xs p) o
+  pub tried_same : Tried g p v new → (i : ℕ) → i < p.placed → at new.order i ≡ at p.order i
+  tried_same (joins z w e) i l = ap (λ q. at q.order i) e ∙ get_or-set_other p.order p.placed i v 0 (let y : ¬ (i ≡ p.placed) = λ y. omega arith in y)
+  tried_same (stays w e) i l = ap (λ q. at q.order i) e
 
-  pub tried_grown : Tried ins first past v order mark placed order' mark' r → placed ≤ r
-  tried_grown (joins z w o m q) = omega arith
-  tried_grown (stays w o m q) = omega arith
+  pub tried_grown : Tried g p v new → p.placed ≤ new.placed
+  tried_grown (joins z w e) = omega (arith, ap (λ q. q.placed) e)
+  tried_grown (stays w e) = omega (arith, ap (λ q. q.placed) e)
 
-  pub tried_stands : Tried ins first past v order mark placed order' mark' r → (x : ℕ) → Stands order placed x → Stands order' r x
+  pub tried_stands : Tried g p v new → (x : ℕ) → Stands p.order p.placed x → Stands new.order new.placed x
   tried_stands t x s =
       record { place = s.place; within = omega (arith, s.within, tried_grown t); holds = tried_same t s.place s.within ∙ s.holds }
 
-module _ {nodes edges : ℕ} {from to count ins first past order mark : List ℕ} {placed : ℕ} (s : Stage nodes edges from to count ins first past order mark placed) where
-  stage_readable : (v : ℕ) → v < nodes → Readable ins first past v
-  stage_readable v h =
-      let b = s.entering.by_node in
-      record {
-        first_rows = omega (arith, s.entering.begin_rows);
-        ins_rows = omega (arith, b.within v h, s.entering.list_rows);
-        past_rows = λ k l. omega (arith, b.edge k (omega (arith, b.within v h)), s.past_rows);
-      }
+module _ {g : BothWays} {p : Placing} (s : Stage g p) (v : ℕ) (h : v < g.wires.nodes) {new : Placing} where
+  -- Where v waits for no edge, the sources of its edges without a register all stand in the order already.
+  pub stage_tried : Tried g p v new → Stage g new
+  stage_tried (joins z w q) = subst (Stage g) (sym q) (record {
+    order_rows = length-set p.order p.placed v ∙ s.order_rows;
+    mark_rows = length-set p.mark v true ∙ s.mark_rows;
+    open_rows = s.open_rows;
+    listed = listed_more g.wires.nodes p.placed p.order p.mark s.listed v h z room (omega (arith, s.mark_rows, g.wires.laid.nodes_fit));
+    bare = s.bare;
+    passed = λ e l c n. tried_stands {g = g} (joins z w refl) (at g.wires.from.now e) (s.passed e l c n);
+    sources_first = λ i e l. sources i e l (ℕ_discrete i p.placed);
+  })
+    where
+      order : List ℕ
+      order = set p.order p.placed v
 
-  stage_room : (v : ℕ) → v < nodes → at mark v ≡ 0 → placed < length order
-  stage_room v h z = omega (arith, listed_room nodes placed order mark s.listed v h z, s.order_rows)
+      room : p.placed < length p.order
+      room = omega (arith, stage_room s v h z, s.order_rows)
 
-  pub stage_place : (v : ℕ) → v < nodes → Readable ins first past v × (v < 512) × (v < length mark) × (at mark v ≡ 0 → placed < length order)
-  stage_place v h = (stage_readable v h, omega (arith, s.laid.nodes_fit), omega (arith, s.mark_rows), stage_room v h)
+      bare_closed : (e : ℕ) → e < g.wires.edges → at g.wires.to.now e ≡ v → (flag p.is_open e ≡ true) ⊎ (flag p.is_open e ≡ false) → flag p.is_open e ≡ false
+      bare_closed e k t (inl y) = absurd (w (record { edge = e; within = k; enters = t; is_open = y }))
+      bare_closed e k t (inr y) = y
 
-  pub stage_few : placed ≤ nodes
-  stage_few = once_few order placed nodes s.listed.once s.listed.nodes_only
+      sources : (i e : ℕ) → i < p.placed + 1 → Dec (i ≡ p.placed) → e < g.wires.edges → at g.wires.to.now e ≡ at order i → at g.count.now e ≡ 0
+          → Stands order i (at g.wires.from.now e)
+      sources i e l (yes y) k j c =
+          let t : at g.wires.to.now e ≡ v = j ∙ ap (at order) y ∙ get_or-set_same p.order p.placed v 0 room in
+          rw y (set_stands p.order p.placed v p.placed _ (omega arith) (s.passed e k c (bare_closed e k t (cases_Bool (flag p.is_open e)))))
+      sources i e l (no y) k j c =
+          set_stands p.order p.placed v i _ (omega arith) (s.sources_first i e (omega arith) k (j ∙ get_or-set_other p.order p.placed i v 0 y) c)
+  stage_tried (stays w q) = subst (Stage g) (sym q) s
 
-  -- ── A node ──────────────────────────────────────────────────────────────────────────────
+  pub tried_waiting : (n : ℕ) → ((w : ℕ) → w < n → ¬ (w ≡ v) → flag p.mark w ≡ false → OpenInto g p w) → Tried g p v new → Waiting g new n
+  tried_waiting n others t w l i =
+      let o = go t (ℕ_discrete w v) in
+      record { edge = o.edge; within = o.within; enters = o.enters; is_open = ap (λ xs. flag xs o.edge) (tried_open t) ∙ o.is_open }
+    where
+      was : (q : Placing) → new ≡ q → flag q.mark w ≡ false
+      was q e = subst (λ x. flag x.mark w ≡ false) e i
 
-  waits_open : (v : ℕ) → v < nodes → Waits ins first past v → OpenInto edges to past v
-  waits_open v h w =
-      let b = s.entering.by_node in
-      record {
-        edge = at ins w.place;
-        within = b.edge w.place (omega (arith, w.high, b.within v h));
-        enters = b.ends v w.place h w.low w.high;
-        is_open = w.is_open;
-      }
+      go : Tried g p v new → Dec (w ≡ v) → OpenInto g p w
+      go (joins z u q) (yes e) =
+          absurd (true≢false (sym (get_or-set_same p.mark v true false (omega (arith, s.mark_rows, g.wires.laid.nodes_fit))) ∙ ap (flag (set p.mark v true)) (sym e) ∙ was _ q))
+      go (joins z u q) (no e) = others w l e (sym (get_or-set_other p.mark v w true false e) ∙ was _ q)
+      go (stays u q) (yes e) = subst (OpenInto g p) (sym e) (u (ap (flag p.mark) (sym e) ∙ was _ q))
+      go (stays u q) (no e) = others w l e (was _ q)
 
-  open_waits : (e : ℕ) → e < edges → at past e ≡ 0 → Waits ins first past (at to e)
-  open_waits e h z =
-      let t = s.entering.by_node.stands e h in
-      record { place = t.0; low = t.1; high = t.2; is_open = ap (at past) t.3 ∙ z }
+-- ── An edge ─────────────────────────────────────────────────────────────────────────────────
 
-  module _ (v : ℕ) (h : v < nodes) {order' mark' : List ℕ} {r : ℕ} where
-    -- Where v waits for no edge, the sources of its edges without a register all stand in the order already.
-    pub stage_tried : Tried ins first past v order mark placed order' mark' r → Stage nodes edges from to count ins first past order' mark' r
-    stage_tried (joins z w o m q) = rw (o, m, q) (record {
-      laid = s.laid;
-      entering = s.entering;
-      past_rows = s.past_rows;
-      order_rows = omega (arith, s.order_rows, length-set order placed v);
-      mark_rows = omega (arith, s.mark_rows, length-set mark v 1);
-      listed = listed_more nodes placed order mark s.listed v h z room (omega (arith, s.mark_rows));
-      bare = s.bare;
-      passed = λ e l c n. tried_stands {mark = mark} {mark' = set mark v 1} (joins z w refl refl refl) (at from e) (s.passed e l c n);
-      sources_first = λ p e l. sources p e l (ℕ_discrete p placed);
-    })
-      where
-        new : List ℕ
-        new = set order placed v
+abbrev pub closed : Placing → ℕ → Placing
+closed p e = record p { is_open = set p.is_open e false }
 
-        room : placed < length order
-        room = stage_room v h z
+pub closed_gone : (xs : List Bool) (e : ℕ) → e < length xs → flag (set xs e false) e ≡ false
+closed_gone xs e h = get_or-set_same xs e false false h
 
-        sources : (p e : ℕ) → p < placed + 1 → Dec (p ≡ placed) → e < edges → at to e ≡ at new p → at count e ≡ 0 → Stands new p (at from e)
-        sources p e l (yes i) k j c =
-            let t : at to e ≡ v = j ∙ ap (at new) i ∙ get_or-set_same order placed v 0 room in
-            rw i (set_stands order placed v placed (at from e) (omega arith) (s.passed e k c (λ y. w (subst (Waits ins first past) t (open_waits e k y)))))
-        sources p e l (no i) k j c =
-            set_stands order placed v p (at from e) (omega arith) (s.sources_first p e (omega arith) k (j ∙ get_or-set_other order placed p v 0 i) c)
-    stage_tried (stays w o m q) = rw (o, m, q) s
+pub closed_kept : (xs : List Bool) (e d : ℕ) → e < length xs → flag xs d ≡ false → flag (set xs e false) d ≡ false
+closed_kept xs e d h n = go (ℕ_discrete d e)
+  where
+    go : Dec (d ≡ e) → flag (set xs e false) d ≡ false
+    go (yes q) = ap (flag (set xs e false)) q ∙ closed_gone xs e h
+    go (no q) = get_or-set_other xs e d false false q ∙ n
 
-    pub tried_waiting : (n : ℕ) → ((w : ℕ) → w < n → ¬ (w ≡ v) → at mark w ≡ 0 → OpenInto edges to past w)
-        → Tried ins first past v order mark placed order' mark' r → Waiting n edges to past mark'
-    tried_waiting n others t w l i = go t (ℕ_discrete w v)
-      where
-        go : Tried ins first past v order mark placed order' mark' r → Dec (w ≡ v) → OpenInto edges to past w
-        go (joins z u o m q) (yes e) = absurd (passed_gone mark v (omega (arith, s.mark_rows)) (ap (at (set mark v 1)) (sym e) ∙ (rw m at i)))
-        go (joins z u o m q) (no e) = others w l e (sym (get_or-set_other mark v w 1 0 e) ∙ (rw m at i))
-        go (stays u o m q) (yes e) = subst (OpenInto edges to past) (sym e) (waits_open v h (u (ap (at mark) (sym e) ∙ (rw m at i))))
-        go (stays u o m q) (no e) = others w l e (rw m at i)
+module _ {g : BothWays} {p : Placing} (s : Stage g p) (e : ℕ) (h : e < g.wires.edges) where
+  inside : e < length p.is_open
+  inside = omega (arith, s.open_rows, g.wires.laid.edges_fit)
 
-  -- ── An edge ─────────────────────────────────────────────────────────────────────────────
-
-  module _ (e : ℕ) (h : e < edges) where
-    pub stage_passed : Stands order placed (at from e) → Stage nodes edges from to count ins first (set past e 1) order mark placed
-    stage_passed t = record {
-      laid = s.laid;
-      entering = s.entering;
-      past_rows = omega (arith, s.past_rows, length-set past e 1);
-      order_rows = s.order_rows;
-      mark_rows = s.mark_rows;
-      listed = s.listed;
-      bare = λ d l z. bare d l z (ℕ_discrete (at past d) 0);
-      passed = λ d l c n. known d l c n (ℕ_discrete d e);
-      sources_first = s.sources_first;
-    }
-      where
-        bare : (d : ℕ) → d < edges → at (set past e 1) d ≡ 0 → Dec (at past d ≡ 0) → at count d ≡ 0
-        bare d l z (yes q) = s.bare d l q
-        bare d l z (no q) = absurd (passed_kept past e (omega (arith, s.past_rows)) d q z)
-
-        known : (d : ℕ) → d < edges → at count d ≡ 0 → ¬ (at (set past e 1) d ≡ 0) → Dec (d ≡ e) → Stands order placed (at from d)
-        known d l c n (yes q) = subst (λ x. Stands order placed (at from x)) (sym q) t
-        known d l c n (no q) = s.passed d l c (λ z. n (get_or-set_other past e d 1 0 q ∙ z))
-
-    pub passed_waiting : Waiting nodes edges to past mark → (w : ℕ) → w < nodes → ¬ (w ≡ at to e) → at mark w ≡ 0 → OpenInto edges to (set past e 1) w
-    passed_waiting a w l n z =
-        let o = a w l z in
-        let y : ¬ (o.edge ≡ e) = λ q. n (sym o.enters ∙ ap (at to) q) in
-        record { edge = o.edge; within = o.within; enters = o.enters; is_open = get_or-set_other past e o.edge 1 0 y ∙ o.is_open }
-
--- ── The first pass ──────────────────────────────────────────────────────────────────────────
-
-module _ (nodes : ℕ) (ins first past order mark : List ℕ) where
-  pub tried_none : FirstTried nodes ins first past order mark order mark 0 0
-  tried_none = record {
-    within = omega arith;
-    order_rows = refl;
-    mark_rows = refl;
-    tried = λ edges from to count s. (s, λ w h. absurd (let z : ⊥ = omega arith in z));
+  pub stage_closed : Stands p.order p.placed (at g.wires.from.now e) → Stage g (closed p e)
+  stage_closed t = record {
+    order_rows = s.order_rows;
+    mark_rows = s.mark_rows;
+    open_rows = length-set p.is_open e false ∙ s.open_rows;
+    listed = s.listed;
+    bare = λ d l z. s.bare d l (was d z (cases_Bool (flag p.is_open d)));
+    passed = λ d l c n. known d l c n (ℕ_discrete d e);
+    sources_first = s.sources_first;
   }
+    where
+      was : (d : ℕ) → flag (set p.is_open e false) d ≡ true → (flag p.is_open d ≡ true) ⊎ (flag p.is_open d ≡ false) → flag p.is_open d ≡ true
+      was d z (inl y) = y
+      was d z (inr y) = absurd (true≢false (sym z ∙ closed_kept p.is_open e d inside y))
 
-  pub tried_more : {order' mark' : List ℕ} {m v : ℕ} → FirstTried nodes ins first past order mark order' mark' m v → v < nodes
-      → {order'' mark'' : List ℕ} {r : ℕ} → length order'' ≡ length order' → length mark'' ≡ length mark' → Tried ins first past v order' mark' m order'' mark'' r
-      → FirstTried nodes ins first past order mark order'' mark'' r (v + 1)
-  tried_more {v = v} f h a b t = record {
-    within = omega arith;
-    order_rows = a ∙ f.order_rows;
-    mark_rows = b ∙ f.mark_rows;
-    tried = λ edges from to count s.
-        let g = f.tried edges from to count s in
-        (stage_tried g.0 v h t, tried_waiting g.0 v h (v + 1) (λ w l n. g.1 w (omega arith)) t);
+      known : (d : ℕ) → d < g.wires.edges → at g.count.now d ≡ 0 → flag (set p.is_open e false) d ≡ false → Dec (d ≡ e) → Stands p.order p.placed (at g.wires.from.now d)
+      known d l c n (yes q) = subst (λ x. Stands p.order p.placed (at g.wires.from.now x)) (sym q) t
+      known d l c n (no q) = s.passed d l c (sym (get_or-set_other p.is_open e d false false q) ∙ n)
+
+  pub closed_waiting : Waiting g p g.wires.nodes → (w : ℕ) → w < g.wires.nodes → ¬ (w ≡ at g.wires.to.now e) → flag p.mark w ≡ false → OpenInto g (closed p e) w
+  closed_waiting a w l n z =
+      let o = a w l z in
+      let y : ¬ (o.edge ≡ e) = λ q. n (sym o.enters ∙ ap (at g.wires.to.now) q) in
+      record { edge = o.edge; within = o.within; enters = o.enters; is_open = get_or-set_other p.is_open e o.edge false false y ∙ o.is_open }
+
+-- ── The edges that leave a node ─────────────────────────────────────────────────────────────
+
+module _ {g : BothWays} {out : List ℕ} {p : Placing} {u : ℕ} (o : EdgesOf g.wires.from.now g.wires.edges u out) {q : Placing} {k : ℕ} (t : Taken g out p u q k)
+    (h : k < length out) where
+  edge : at out k < g.wires.edges
+  edge = o.edge k h
+
+  entered : at g.wires.to.now (at out k) < g.wires.nodes
+  entered = g.wires.laid.to_in (at out k) edge
+
+  -- The edge leaves u, which stands in the order.
+  pub taken_closed : Stage g (closed q (at out k))
+  taken_closed = stage_closed t.taking.stage (at out k) edge (subst (Stands q.order q.placed) (sym (o.ends k h)) t.taking.taken)
+
+  pub taken_reads : (at out k < 1024) × (at out k < length g.wires.to.now) × (at g.wires.to.now (at out k) < g.wires.nodes)
+  taken_reads = (omega (arith, edge, g.wires.laid.edges_fit), omega (arith, edge, g.wires.laid.to_rows), entered)
+
+  pub taken_more : {new : Placing} → Tried g (closed q (at out k)) (at g.wires.to.now (at out k)) new → Taken g out p u new (k + 1)
+  taken_more {new} r = record {
+    taking = record {
+      stage = stage_tried taken_closed _ entered r;
+      waiting = tried_waiting taken_closed _ entered g.wires.nodes (closed_waiting t.taking.stage (at out k) edge t.taking.waiting) r;
+      taken = tried_stands r u t.taking.taken;
+    };
+    more = omega (arith, t.more, tried_grown r);
+    same = λ i l. tried_same r i (omega (arith, t.more)) ∙ t.same i l;
+    kept = λ e n. shut e (closed_kept q.is_open (at out k) e inside (t.kept e n));
+    gone = λ j l. gone j l (ℕ_discrete j k);
   }
+    where
+      inside : at out k < length q.is_open
+      inside = omega (arith, taken_reads.0, t.taking.stage.open_rows)
+
+      shut : (e : ℕ) → flag (set q.is_open (at out k) false) e ≡ false → flag new.is_open e ≡ false
+      shut e y = ap (λ xs. flag xs e) (tried_open r) ∙ y
+
+      gone : (j : ℕ) → j < k + 1 → Dec (j ≡ k) → flag new.is_open (at out j) ≡ false
+      gone j l (yes y) = shut (at out j) (ap (λ i. flag (set q.is_open (at out k) false) (at out i)) y ∙ closed_gone q.is_open (at out k) inside)
+      gone j l (no y) = shut (at out j) (closed_kept q.is_open (at out k) (at out j) inside (t.gone j (omega arith)))

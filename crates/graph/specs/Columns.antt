@@ -1,14 +1,18 @@
 -- A graph in columns: for each node its gate kind, for each edge the node it leaves and the node it enters.
 --   at xs i             the i-th of xs, 0 past its end
+--   flag xs i           so of flags, false past their end
 --   bit word k          bit k of a word, bit 0 the lowest
 --   column_graph        the theory's graph of the columns
 --   fan_in G v          how many edges enter v
-use Rattle.std.specs.Prelude.{List, ℕ, ◌/◌, ◌%◌, ◌^◌, length, get_or}
+use Rattle.std.specs.Prelude.{Bool, false, List, ℕ, ◌/◌, ◌%◌, ◌^◌, length, get_or}
 use Rattle.theory.specs.Graph.{Graph}
 use Rattle.theory.specs.Clock.{gather}
 
 abbrev pub at : List ℕ → ℕ → ℕ
 at xs i = get_or xs i 0
+
+abbrev pub flag : List Bool → ℕ → Bool
+flag xs i = get_or xs i false
 
 abbrev pub bit : ℕ → ℕ → ℕ
 bit word k = word / 2 ^ k % 2

@@ -4,48 +4,39 @@ ghost use Rattle.std.specs.Prelude.{◌≡◌, ℕ, ◌≤◌, ◌<◌, length};
 ghost use Rattle.graph.specs.Columns.{at};
 ghost use Rattle.graph.specs.inner.Sort.{EachEdge};
 
-use crate::sort::sort_by;
-use crate::{EDGES, NODES};
+use crate::{EDGES, NODES, edges_by_node};
 
 // The place of each node in an order. (Only that it is a place is promised.)
-fn places_of(order: &[u16], nodes: usize) -> [u16; NODES]
-    requires { (nodes ≤ 512) × (nodes ≤ length order.now) × ((p : ℕ) → p < nodes → at order.now p < nodes) }
-    ensures { (v : ℕ) → v < nodes → at result v < nodes }
+fn places_of(order: &[u16]) -> [u16; NODES]
+    requires { (length order.now ≤ 512) × ((p : ℕ) → p < length order.now → at order.now p < length order.now) }
+    ensures { (v : ℕ) → v < length order.now → at result v < length order.now }
 {
     let mut place = [0u16; NODES];
-    let mut p = 0;
-    while p < nodes {
-        let v = order[p] as usize;
-        place[v] = p as u16;
-        p += 1;
+    for (p, v) in order.iter().enumerate() {
+        place[*v as usize] = p as u16;
     }
     place
 }
 
 // For each edge the place of the node that it leaves.
-fn place_keys(from: &[u16], edges: usize, place: &[u16]) -> [u16; EDGES]
-    requires { (edges ≤ 1024) × (edges ≤ length from.now) × ((e : ℕ) → e < edges → at from.now e < length place.now) }
-    ensures { (e : ℕ) → e < edges → at result e ≡ at place.now (at from.now e) }
+fn place_keys(from: &[u16], place: &[u16]) -> [u16; EDGES]
+    requires { (length from.now ≤ 1024) × ((e : ℕ) → e < length from.now → at from.now e < length place.now) }
+    ensures { (e : ℕ) → e < length from.now → at result e ≡ at place.now (at from.now e) }
 {
     let mut key = [0u16; EDGES];
-    let mut e = 0;
-    while e < edges {
-        let u = from[e] as usize;
-        key[e] = place[u];
-        e += 1;
+    for (e, u) in from.iter().enumerate() {
+        key[e] = place[*u as usize];
     }
     key
 }
 
-pub fn edges_along(from: &[u16], order: &[u16], nodes: usize, edges: usize) -> [u16; EDGES]
-    requires nodes_bound { (nodes ≤ 512) × (nodes ≤ length order.now) × ((p : ℕ) → p < nodes → at order.now p < nodes) }
-    requires edges_bound { (edges ≤ 1024) × (edges ≤ length from.now) × ((e : ℕ) → e < edges → at from.now e < nodes) }
-    ensures { EachEdge result edges }
+// `from` has all edges and no more, and `order` all nodes.
+pub fn edges_along(from: &[u16], order: &[u16]) -> [u16; EDGES]
+    requires nodes_bound { (length order.now ≤ 512) × ((p : ℕ) → p < length order.now → at order.now p < length order.now) }
+    requires edges_bound { (length from.now ≤ 1024) × ((e : ℕ) → e < length from.now → at from.now e < length order.now) }
+    ensures { EachEdge result (length from.now) }
 {
-    let place = places_of(order, nodes);
-    let key = place_keys(from, edges, &place);
-    let mut along = [0u16; EDGES];
-    let mut begin = [0u16; NODES + 1];
-    sort_by(&key, edges, nodes, &mut along, &mut begin);
-    along
+    let place = places_of(order);
+    let key = place_keys(from, &place);
+    edges_by_node(&key, order.len(), from.len()).list
 }

@@ -3,16 +3,21 @@
 #![tactic(auto)]
 
 mod along;
+mod both_ways;
+mod by_node;
 mod layers;
 mod order;
 mod reach;
 mod sort;
+mod wires;
 
 pub use along::edges_along;
+pub use by_node::{EdgesByNode, edges_by_node};
 pub use layers::{Layer, reached, walk};
 pub use order::{evaluation_order, looped};
 pub use reach::{any_above, fan_ins};
 pub use sort::sort_by;
+pub use wires::Wires;
 
 // How many nodes and edges a netlist has at most: the lengths of all columns.
 pub const NODES: usize = 512;

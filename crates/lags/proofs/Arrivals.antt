@@ -1,16 +1,16 @@
 -- Arrival times in one pass along an order under the labels.
 --   product_small       a delay times a derate
---   latest_none, latest_kept, latest_raised      of no edge; an edge that is not empty, or not later; one that is both
+--   latest_none, latest_kept, latest_later       of no edge; an edge that is not empty; one that is
 --   basis_readable      a node's edges can be read
 --   Times               arrival times under the labels: there are some, and only one for each node
 --   Timing              what holds before place i of the order: each node there has its arrival time
 --   time_low            what its edges give the next node is at most the period and one
 --   time_next           the next node has its arrival time too
 --   time_end            after the last node
-use Prim.Native.Nat.{ℕ, suc, ◌+◌, ◌*◌, min, ◌≤◌, ◌<◌}
+use Prim.Native.Nat.{ℕ, suc, ◌+◌, ◌*◌, min, max, ◌≤◌, ◌<◌}
 use native.Mathlib.Omega.{arith}
 use native.Mathlib.Nat.{mul-le-mul}
-use native.Mathlib.Decide.{ℕ_discrete}
+use native.Mathlib.Decide.{ℕ_discrete, dec_lt}
 use mathlib.Core.Path.{◌≡◌, refl, sym, subst, ap, ◌∙◌}
 use mathlib.Core.List.{List}
 use mathlib.Core.Logic.{◌⊎◌, inl, inr, ⊎_elim}
@@ -27,7 +27,8 @@ use Rattle.graph.specs.Columns.{at}
 use Rattle.netlist.specs.declared.Netlist.{Netlist}
 use Rattle.netlist.specs.Net.{graph_of, delay_of}
 use Rattle.netlist.proofs.Run.{fit_rows, fit_wired}
-use Rattle.lags.specs.inner.Wires.{Basis}
+use Rattle.lags.specs.declared.Ground.{Ground}
+use Rattle.lags.specs.inner.Wires.{Basis, Entering}
 use Rattle.lags.specs.inner.Rounds.{EmptyUnder, LabelOrder, Readable, LatestTime, Arrived}
 
 pub product_small : (a b : ℕ) → a < 256 → b < 256 → a * b ≤ 65025
@@ -35,23 +36,32 @@ product_small a b h k = mul-le-mul {n₁ = a} {m₁ = b} {n₂ = 255} {m₂ = 25
 
 -- ── The edges of one node ───────────────────────────────────────────────────────────────────
 
-module _ (ins from count lab time : List ℕ) (here lo : ℕ) where
-  pub latest_none : LatestTime ins from count lab time here lo lo 0
-  latest_none = record { above = λ k a b. absurd (let z : ⊥ = omega arith in z); cause = inl refl }
+module _ (net : Netlist) (ins lab time : List ℕ) (here : ℕ) where
+  pub latest_none : LatestTime net ins lab time here 0 0
+  latest_none = record { above = λ k a. absurd (let z : ⊥ = omega arith in z); cause = inl refl }
 
-  module _ (k best : ℕ) (h : lo ≤ k) (t : LatestTime ins from count lab time here lo k best) where
-    pub latest_kept : (at lab (at from (at ins k)) ≡ at count (at ins k) + here → at time (at from (at ins k)) ≤ best) → LatestTime ins from count lab time here lo (k + 1) best
+  module _ (k best : ℕ) (t : LatestTime net ins lab time here k best) where
+    pub latest_kept : (at lab (at net.from (at ins k)) ≡ at net.count (at ins k) + here → at time (at net.from (at ins k)) ≤ best)
+        → LatestTime net ins lab time here (k + 1) best
     latest_kept q = record {
-      above = below_more _ _ t.above (λ _. q);
-      cause = ⊎_elim inl (λ c. inr (c.0, c.1, omega (arith, c.2), c.3, c.4)) t.cause;
+      above = below_more _ _ t.above q;
+      cause = ⊎_elim inl (λ c. inr (c.0, omega (arith, c.1), c.2, c.3)) t.cause;
     }
 
-    pub latest_raised : at lab (at from (at ins k)) ≡ at count (at ins k) + here → best < at time (at from (at ins k))
-        → LatestTime ins from count lab time here lo (k + 1) (at time (at from (at ins k)))
+    latest_raised : at lab (at net.from (at ins k)) ≡ at net.count (at ins k) + here → best < at time (at net.from (at ins k))
+        → LatestTime net ins lab time here (k + 1) (at time (at net.from (at ins k)))
     latest_raised e q = record {
-      above = below_more _ _ (λ j m l z. omega (arith, t.above j m l z)) (λ _ _. omega arith);
-      cause = inr (k, h, omega arith, e, refl);
+      above = below_more _ _ (λ j m z. omega (arith, t.above j m z)) (λ _. omega arith);
+      cause = inr (k, omega arith, e, refl);
     }
+
+    -- The later of the two, where the edge is empty.
+    pub latest_later : at lab (at net.from (at ins k)) ≡ at net.count (at ins k) + here → LatestTime net ins lab time here (k + 1) (max (at time (at net.from (at ins k))) best)
+    latest_later e = go (dec_lt best (at time (at net.from (at ins k))))
+      where
+        go : Dec (best < at time (at net.from (at ins k))) → LatestTime net ins lab time here (k + 1) (max (at time (at net.from (at ins k))) best)
+        go (yes q) = subst (LatestTime net ins lab time here (k + 1)) (omega arith) (latest_raised e q)
+        go (no q) = subst (LatestTime net ins lab time here (k + 1)) (omega arith) (latest_kept (λ _. omega arith))
 
 -- ── What arrival times are ──────────────────────────────────────────────────────────────────
 
@@ -87,26 +97,15 @@ abbrev pub Times : Netlist → ℕ → List ℕ → (ℕ → ℕ) → Type 0
 Times net P lab a = Arrival (graph_of net) (at net.count) (delay_of net) P (at lab) a
 
 pub record Timing (net : Netlist) (P : ℕ) (lab order time : List ℕ) (i : ℕ) : Type 0 where
-  pub done : i ≤ net.nodes
   pub size : length time ≡ 512
   pub exact : (a : ℕ → ℕ) → Times net P lab a → (p : ℕ) → p < i → at time (at order p) ≡ a (at order p)
 
-module _ {net : Netlist} {P : ℕ} {ins first delay : List ℕ} (b : Basis net P ins first delay) where
+module _ {net : Netlist} {g : Ground} {P : ℕ} (b : Basis net g P) where
   wired : Wired (graph_of net)
   wired = fit_wired net b.sure.fit
 
-  pub basis_readable : (lab time : List ℕ) → net.nodes ≤ length lab → net.nodes ≤ length time → 1024 ≤ length net.from → 1024 ≤ length net.count
-      → (v : ℕ) → v < net.nodes → at lab v < 32768 → Readable ins net.from net.count lab time (at lab v) (at first v) (at first (v + 1))
-  basis_readable lab time rl rt rf rc v h s = record {
-    up = b.wires.by_node.up v h;
-    rows = omega (arith, b.wires.by_node.within v h, b.wires.list_rows);
-    small = s;
-    edge = λ k l q.
-        let e = b.wires.by_node.edge k (omega (arith, b.wires.by_node.within v h)) in
-        let u = wired.src_in (at ins k) e in
-        let n = (fit_rows net b.sure.fit).1 in
-        (omega arith, omega arith, omega arith, omega arith);
-  }
+  pub basis_readable : {v : ℕ} {ins : List ℕ} → Entering net v ins → Readable net ins
+  basis_readable {v} {ins} x k h = omega (arith, x.edge k h, wired.src_in (at ins k) (x.edge k h), fit_rows net b.sure.fit)
 
   module _ {lab order time : List ℕ} {i : ℕ} (o : LabelOrder net lab order) (t : Timing net P lab order time i) where
     pub time_end : net.nodes ≤ i → Arrived net P lab time
@@ -116,8 +115,8 @@ module _ {net : Netlist} {P : ℕ} {ins first delay : List ℕ} (b : Basis net P
         (λ v m. let p = o.listed.every v m in
         subst (λ x. at time x ≡ s.0 x) p.holds (t.exact s.0 s.1 p.place (omega (arith, p.within))))
 
-    module _ (h : i < net.nodes) (best : ℕ)
-        (l : LatestTime ins net.from net.count lab time (at lab (at order i)) (at first (at order i)) (at first (at order i + 1)) best) where
+    module _ (h : i < net.nodes) {ins : List ℕ} (x : Entering net (at order i) ins) (best : ℕ)
+        (l : LatestTime net ins lab time (at lab (at order i)) (length ins) best) where
       abbrev v : ℕ
       v = at order i
 
@@ -132,13 +131,13 @@ module _ {net : Netlist} {P : ℕ} {ins first delay : List ℕ} (b : Basis net P
 
         -- The edge that the latest time comes by, where there is one.
         best_edge : (best ≡ 0) ⊎ ((e : ℕ) × (e < net.edges) × (at net.to e ≡ v) × EmptyUnder net lab e × (best ≡ a (at net.from e)))
-        best_edge = ⊎_elim inl (λ c. inr (go c.0 c.1 c.2 c.3 c.4)) l.cause
+        best_edge = ⊎_elim inl (λ c. inr (go c.0 c.1 c.2 c.3)) l.cause
           where
-            go : (k : ℕ) → at first v ≤ k → k < at first (v + 1) → at lab (at net.from (at ins k)) ≡ at net.count (at ins k) + at lab v → at time (at net.from (at ins k)) ≡ best
+            go : (k : ℕ) → k < length ins → at lab (at net.from (at ins k)) ≡ at net.count (at ins k) + at lab v → at time (at net.from (at ins k)) ≡ best
                 → (e : ℕ) × (e < net.edges) × (at net.to e ≡ v) × EmptyUnder net lab e × (best ≡ a (at net.from e))
-            go k x y z q =
-                let m = b.wires.by_node.edge k (omega (arith, b.wires.by_node.within v node)) in
-                let to = b.wires.by_node.ends v k node x y in
+            go k y z q =
+                let m = x.edge k y in
+                let to = x.ends k y in
                 let empty : EmptyUnder net lab (at ins k) = omega (arith, ap (at lab) to) in
                 (at ins k, m, to, empty, sym q ∙ source_time (at ins k) m to empty)
 
@@ -160,11 +159,9 @@ module _ {net : Netlist} {P : ℕ} {ins first delay : List ℕ} (b : Basis net P
           where
             late : (e : ℕ) → e < net.edges → at net.to e ≡ v → EmptyUnder net lab e → a (at net.from e) ≤ best
             late e m q z =
-                let k = b.wires.by_node.stands e m in
-                let x : at first v ≤ k.0 = subst (λ y. at first y ≤ k.0) q k.1 in
-                let y : k.0 < at first (v + 1) = subst (λ y. k.0 < at first (y + 1)) q k.2 in
+                let k = x.every e m q in
                 let f : at time (at net.from e) ≤ best =
-                subst (λ d. at lab (at net.from d) ≡ at net.count d + at lab v → at time (at net.from d) ≤ best) k.3 (l.above k.0 y x) (omega (arith, ap (at lab) q)) in
+                subst (λ d. at lab (at net.from d) ≡ at net.count d + at lab v → at time (at net.from d) ≤ best) k.holds (l.above k.place k.within) (omega (arith, ap (at lab) q)) in
                 omega (arith, source_time e m q z)
 
       pub time_low : best ≤ suc P
@@ -175,10 +172,9 @@ module _ {net : Netlist} {P : ℕ} {ins first delay : List ℕ} (b : Basis net P
           (λ c. omega (arith, c.4, (s.1.reached (at net.from c.0) (wired.src_in c.0 c.1)).enough))
           (best_edge s.0 s.1)
 
-      pub time_next : (x : ℕ) → x ≡ min (suc P) (best + at delay v) → Timing net P lab order (set time v x) (i + 1)
-      time_next x q = record {
-        done = omega arith;
-        size = length-set time v x ∙ t.size;
+      pub time_next : (t' : ℕ) → t' ≡ min (suc P) (best + at g.delay v) → Timing net P lab order (set time v t') (i + 1)
+      time_next t' q = record {
+        size = length-set time v t' ∙ t.size;
         exact = λ a w p m. go a w p m (ℕ_discrete (at order p) v);
       }
         where
@@ -186,9 +182,9 @@ module _ {net : Netlist} {P : ℕ} {ins first delay : List ℕ} (b : Basis net P
           before p m z (yes e) = absurd (z (ap (at order) e))
           before p m z (no e) = omega arith
 
-          go : (a : ℕ → ℕ) → Times net P lab a → (p : ℕ) → p < i + 1 → Dec (at order p ≡ v) → at (set time v x) (at order p) ≡ a (at order p)
+          go : (a : ℕ → ℕ) → Times net P lab a → (p : ℕ) → p < i + 1 → Dec (at order p ≡ v) → at (set time v t') (at order p) ≡ a (at order p)
           go a w p m (yes z) =
-              subst (λ y. at (set time v x) y ≡ a y) (sym z)
-              (get_or-set_same time v x 0 (omega (arith, node, t.size, (fit_rows net b.sure.fit).0)) ∙ omega (arith, b.delayed.exact v node, time_above a w, time_below a w))
+              subst (λ y. at (set time v t') y ≡ a y) (sym z)
+              (get_or-set_same time v t' 0 (omega (arith, node, t.size, (fit_rows net b.sure.fit).0)) ∙ omega (arith, b.ground.delayed.exact v node, time_above a w, time_below a w))
           go a w p m (no z) =
-              get_or-set_other time v (at order p) x 0 z ∙ t.exact a w p (before p m z (ℕ_discrete p i))
+              get_or-set_other time v (at order p) t' 0 z ∙ t.exact a w p (before p m z (ℕ_discrete p i))

@@ -6,10 +6,8 @@
 use Prim.Native.Nat.{ℕ, ◌+◌, ◌*◌, ◌≤◌, ◌<◌}
 use native.Mathlib.Omega.{arith}
 use native.Mathlib.Decide.{dec_le}
-use mathlib.Core.Path.{◌≡◌, subst}
-use mathlib.Core.Bool.{true, false}
+use mathlib.Core.Path.{◌≡◌, refl, subst}
 use mathlib.Core.List.{List}
-use lib.ListN.{length}
 use Rattle.theory.specs.inner.Labels.{LegalLabels, LeastLabels}
 use Rattle.theory.specs.inner.Arrival.{FromPin, Infeasible}
 use Rattle.theory.proofs.labels.Start.{from_pin}
@@ -19,11 +17,11 @@ use Rattle.graph.specs.Columns.{at}
 use Rattle.graph.specs.inner.Marks.{Above}
 use Rattle.netlist.specs.declared.Netlist.{Netlist}
 use Rattle.netlist.specs.Net.{graph_of, regs_of, delay_of}
+use Rattle.netlist.specs.Circuit.{NoneMeetsIn}
 use Rattle.netlist.specs.inner.Words.{PinIn}
-use Rattle.netlist.proofs.Fits.{clash}
-use Rattle.netlist.proofs.Run.{fit_rows, fit_wired}
-use Rattle.lags.specs.declared.Labels.{Labels}
-use Rattle.lags.specs.inner.Lags.{lag_of, Sure, Leasts}
+use Rattle.netlist.proofs.Run.{fit_wired}
+use Rattle.lags.specs.inner.Lags.{lag_of, Sure, Least}
+use Rattle.lags.specs.declared.Ground.{Ground}
 use Rattle.lags.specs.inner.Wires.{Basis}
 use Rattle.lags.specs.inner.Climb.{label_of, time_of, Takes, on, anew, Rests, Marked}
 use Rattle.lags.proofs.Laws.{lag_label}
@@ -54,69 +52,58 @@ near net s v h = go (dec_le (at net.kind v) 1)
         record { from = t.from; pin = t.pin; walk = t.walk; few = omega (arith, t.few) }
     go (no p) = near_pin net s v h p
 
-pub climb_start : (net : Netlist) (P : ℕ) (mark : List ℕ) → net.nodes ≤ length mark → ((v : ℕ) → v < net.nodes → at mark v ≡ 0) → Marked net P mark
-climb_start net P mark n z = record {
-  rows = n;
+pub climb_start : (net : Netlist) (P : ℕ) (mark : List ℕ) → ((v : ℕ) → v < net.nodes → at mark v ≡ 0) → Marked net P mark
+climb_start net P mark z = record {
   low = λ v h. omega (arith, z v h);
   pinned = λ v h p. omega (arith, z v h);
   under = λ v h r l q. under_alone (at net.count) (delay_of net) P r v _ _ h (omega (arith, z v h)) (omega (arith, z v h));
 }
 
-pub climb_none : (net : Netlist) (P : ℕ) → Sure net → (r : Labels) → r.found ≡ false → ((v : ℕ) → v < 512 → at r.lab v ≡ 0)
-    → Infeasible (graph_of net) (regs_of net).count (delay_of net) 16384 P → Leasts net P r
-climb_none net P s r e z n = record {
-  least = λ q. clash (cc);
-  none = λ _. none_lags (fit_wired net s.fit) (at net.count) (delay_of net) 16384 P (near net s) n;
-  small = λ v h. omega (arith, z v (omega (arith, (fit_rows net s.fit).0)));
-}
+pub climb_none : (net : Netlist) (P : ℕ) → Sure net → Infeasible (graph_of net) (regs_of net).count (delay_of net) 16384 P → NoneMeetsIn net P
+climb_none net P s n = none_lags (fit_wired net s.fit) (at net.count) (delay_of net) 16384 P (near net s) n
 
-module _ {net : Netlist} {P : ℕ} {ins first delay : List ℕ} (w : Basis net P ins first delay) where
-  pub climb_slow : Above delay net.nodes P → Infeasible (graph_of net) (regs_of net).count (delay_of net) 16384 P
-  climb_slow t = slow_node (at net.count) (delay_of net) 16384 P t.node t.within (omega (arith, t.above, w.delayed.exact t.node t.within))
+module _ {net : Netlist} {g : Ground} {P : ℕ} (w : Basis net g P) where
+  pub climb_slow : Above g.delay net.nodes P → Infeasible (graph_of net) (regs_of net).count (delay_of net) 16384 P
+  climb_slow t = slow_node (at net.count) (delay_of net) 16384 P t.node t.within (omega (arith, t.above, w.ground.delayed.exact t.node t.within))
 
-  module _ (quick : ¬ Above delay net.nodes P) (mark : List ℕ) (m : Marked net P mark) (rests : (v : ℕ) → v < net.nodes → Rests net P ins first delay mark v) where
-    quick_at : (v : ℕ) → v < net.nodes → at delay v ≤ P
-    quick_at v h = go (dec_le (at delay v) P)
+  module _ (quick : ¬ Above g.delay net.nodes P) (mark : List ℕ) (m : Marked net P mark) (rests : (v : ℕ) → v < net.nodes → Rests net P mark v) where
+    quick_at : (v : ℕ) → v < net.nodes → delay_of net v ≤ P
+    quick_at v h = go (dec_le (delay_of net v) P)
       where
-        go : Dec (at delay v ≤ P) → at delay v ≤ P
+        go : Dec (delay_of net v ≤ P) → delay_of net v ≤ P
         go (yes l) = l
-        go (no l) = absurd (quick (record { node = v; within = h; above = omega arith }))
+        go (no l) = absurd (quick (record { node = v; within = h; above = omega (arith, w.ground.delayed.exact v h) }))
 
     end_in : (e : ℕ) → e < net.edges → at net.to e < net.nodes
     end_in = (fit_wired net w.sure.fit).dst_in
 
     asks : (e : ℕ) (h : e < net.edges) → at mark (at net.from e) ≤ (rests (at net.to e) (end_in e h)).best + at net.count e * 1048576
-    asks e h =
-        let t = rests (at net.to e) (end_in e h) in
-        let k = w.wires.by_node.stands e h in
-        subst (λ x. at mark (at net.from x) ≤ t.best + at net.count x * 1048576) k.3 (t.asked.above k.0 k.2 k.1)
+    asks e h = (rests (at net.to e) (end_in e h)).above e h refl
 
     found_legal : LegalLabels (graph_of net) (at net.count) 16384 (λ v. label_of (at mark v))
     found_legal = record {
       fits = λ e h. takes_fits (at mark (at net.from e)) (at net.count e) (rests (at net.to e) (end_in e h)).takes (asks e h);
       pinned = λ v h p.
-          omega (arith, m.pinned v h p, floor_pin (at net.kind v) p, (rests v h).asked.least, (takes_own (rests v h).takes (quick_at v h)).0);
+          omega (arith, m.pinned v h p, floor_pin (at net.kind v) p, (rests v h).least, (takes_own (rests v h).takes (quick_at v h)).0);
     }
 
     found_least : LeastLabels (graph_of net) (at net.count) (delay_of net) 16384 P (λ v. label_of (at mark v))
     found_least =
         climb_least (at net.count) (delay_of net) 16384 P (fit_wired net w.sure.fit) (λ v. label_of (at mark v)) (λ v. time_of (at mark v)) m.under
         found_legal
-        (λ v h. omega (arith, (takes_own (rests v h).takes (quick_at v h)).1, w.delayed.exact v h))
+        (λ v h. omega (arith, (takes_own (rests v h).takes (quick_at v h)).1))
         (λ e h z.
         omega (
           arith,
           takes_time (at mark (at net.from e)) (at net.count e) (rests (at net.to e) (end_in e h)).takes (asks e h) z,
-          w.delayed.exact (at net.to e) (end_in e h),
         ))
         (λ v h. (takes_own (rests v h).takes (quick_at v h)).2)
 
-    pub climb_found : (lab : List ℕ) → ((v : ℕ) → v < net.nodes → at lab v ≡ label_of (at mark v)) → Leasts net P (record { found = true; lab = lab })
+    pub climb_found : (lab : List ℕ) → ((v : ℕ) → v < net.nodes → at lab v ≡ label_of (at mark v)) → Least net P lab
     climb_found lab q = record {
-      least = λ _.
+      least =
           least_lags (fit_wired net w.sure.fit) (at net.count) (delay_of net) 16384 P (near net w.sure) (λ v. lag_of (at lab v)) (λ v. label_of (at mark v))
           (λ v h. subst (λ l. Label 16384 (lag_of (at lab v)) l) (q v h) (lag_label (at lab v)))
           found_least;
-      none = λ z. clash (cc);
       small = λ v h. omega (arith, q v h, m.low v h);
     }

@@ -43,8 +43,8 @@ module _ (net : Netlist) (lab held : List ℕ) (q : Held net lab held) where
         bare = omega (arith, chain_sum (at net.count) (at lab) o.walk (held_chain o.walk o.bare));
       })
 
-  pub held_ordered : (order : List ℕ) → net.nodes ≤ length order → Ordered net.nodes net.edges net.from net.to held order → LabelOrder net lab order
-  held_ordered order rows o = record { listed = ordered_nodes net held order rows o; sources_first = λ p e h m t z. o.sources_first p e h m t ((q e m).0 z) }
+  pub held_ordered : (order : List ℕ) → Ordered net.nodes net.edges net.from net.to held order → LabelOrder net lab order
+  held_ordered order o = record { listed = ordered_nodes net held order o; sources_first = λ p e h m t z. o.sources_first p e h m t ((q e m).0 z) }
 
 -- ── Parting ─────────────────────────────────────────────────────────────────────────────────
 
@@ -153,10 +153,9 @@ module _ (net : Netlist) (P : ℕ) (time lab next order new : List ℕ) (s : Sur
             rest_in j u (omega arith) (part_order net lab order o (OnTime time P) w.rest w.b w.parts.rest_part j e h m q
             (omega (arith, l.stays u u_in y, l.stays v v_in quick)) y)
 
-  pub order_kept : net.nodes ≤ length new → LabelOrder net next new
-  order_kept rows = record {
+  pub order_kept : LabelOrder net next new
+  order_kept = record {
     listed = record {
-      rows = rows;
       node = each (λ p x. x < net.nodes)
           (part_node net lab order o (LateBy time P) w.late w.a w.parts.late_part)
           (part_node net lab order o (OnTime time P) w.rest w.b w.parts.rest_part);

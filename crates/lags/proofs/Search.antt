@@ -8,13 +8,12 @@
 --   search_next         a round further
 --   search_found        no node is late: the labels are those of the least retiming
 --   search_pin          a pin is late: no legal retiming meets the period
---   search_last         after as many rounds as nodes: the least, or there is none
+--   search_rounds       a node is late after as many rounds as nodes: no legal retiming meets the period
 use Prim.Native.Nat.{ℕ, suc, ◌+◌, ◌≤◌, ◌<◌}
 use native.Mathlib.Omega.{arith}
 use native.Mathlib.Numerals.{add-one}
 use native.Mathlib.Decide.{ℕ_discrete}
 use mathlib.Core.Path.{◌≡◌, sym, subst, ◌∙◌}
-use mathlib.Core.Bool.{Bool, true, false, not}
 use mathlib.Core.List.{List}
 use lib.ListN.{length, set, length-set}
 use lib.Seq.{get_or-set_same, get_or-set_other}
@@ -25,13 +24,12 @@ use Rattle.theory.proofs.labels.Stop.{After, start, round, after_near, after_fit
 use Rattle.theory.proofs.labels.Arrival.{time_late, times_round, times_no_late_pin, times_none}
 use Rattle.theory.proofs.labels.Answer.{ready, answer_least, answer_pin, answer_rounds}
 use Rattle.graph.specs.Columns.{at}
-use Rattle.graph.specs.Layers.{Told}
 use Rattle.graph.specs.inner.Marks.{Above}
 use Rattle.netlist.specs.declared.Netlist.{Netlist}
 use Rattle.netlist.specs.Net.{graph_of, regs_of, delay_of}
-use Rattle.netlist.proofs.Fits.{clash}
+use Rattle.netlist.specs.Circuit.{NoneMeetsIn}
 use Rattle.netlist.proofs.Run.{fit_rows, fit_wired}
-use Rattle.lags.specs.inner.Lags.{lag_of, Sure, Leasts}
+use Rattle.lags.specs.inner.Lags.{lag_of, Sure, Least}
 use Rattle.lags.specs.inner.Starts.{FirstLabels}
 use Rattle.lags.specs.inner.Rounds.{Low, LabelOrder, Arrived, LatePin, Lifted, Parted}
 use Rattle.lags.proofs.Laws.{lag_label}
@@ -42,8 +40,7 @@ use Rattle.lags.proofs.Orders.{order_kept}
 
 module _ (nodes P : ℕ) (time before : List ℕ) where
   pub record Lifting (lab : List ℕ) (v : ℕ) : Type 0 where
-    pub done : v ≤ nodes
-    pub size : length lab ≡ length before
+    pub size : length lab ≡ 512
     pub up : (k : ℕ) → k < v → P < at time k → at lab k ≡ at before k + 1
     pub stays : (k : ℕ) → k < v → at time k ≤ P → at lab k ≡ at before k
     pub rest : (k : ℕ) → v ≤ k → at lab k ≡ at before k
@@ -51,7 +48,6 @@ module _ (nodes P : ℕ) (time before : List ℕ) where
   module _ (lab : List ℕ) (v : ℕ) (h : v < nodes) (l : Lifting lab v) where
     pub lift_kept : at time v ≤ P → Lifting lab (v + 1)
     lift_kept q = record {
-      done = omega arith;
       size = l.size;
       up = λ k m t. up k m t (ℕ_discrete k v);
       stays = λ k m t. stays k m t (ℕ_discrete k v);
@@ -66,9 +62,8 @@ module _ (nodes P : ℕ) (time before : List ℕ) where
         stays k m t (yes z) = l.rest k (omega arith)
         stays k m t (no z) = l.stays k (omega arith) t
 
-    pub lift_late : nodes ≤ length before → P < at time v → Lifting (set lab v (at lab v + 1)) (v + 1)
+    pub lift_late : nodes ≤ 512 → P < at time v → Lifting (set lab v (at lab v + 1)) (v + 1)
     lift_late n q = record {
-      done = omega arith;
       size = length-set lab v (at lab v + 1) ∙ l.size;
       up = λ k m t. up k m t (ℕ_discrete k v);
       stays = λ k m t. stays k m t (ℕ_discrete k v);
@@ -98,19 +93,14 @@ pub record Searching (net : Netlist) (P : ℕ) (first lab order : List ℕ) (k :
   pub sure : Sure net
   pub begun : FirstLabels net first
   pub rounds : k ≤ 512
-  pub size : length lab ≡ 512
-  pub order_size : length order ≡ 512
   pub ordered : LabelOrder net lab order
   pub after : After (graph_of net) (regs_of net).count (delay_of net) P (at first) (at lab) k
 
-pub search_start : {net : Netlist} {P : ℕ} {first order : List ℕ} (k : ℕ) → k ≡ 0 → Sure net → FirstLabels net first → length first ≡ 512 → LabelOrder net first order
-    → length order ≡ 512 → Searching net P first first order k
-search_start {net} {P} {first} k z s b n o m = record {
+pub search_start : {net : Netlist} {P : ℕ} {first order : List ℕ} (k : ℕ) → k ≡ 0 → Sure net → FirstLabels net first → LabelOrder net first order → Searching net P first first order k
+search_start {net} {P} {first} k z s b o = record {
   sure = s;
   begun = b;
   rounds = omega arith;
-  size = n;
-  order_size = m;
   ordered = o;
   after = subst (After (graph_of net) (regs_of net).count (delay_of net) P (at first) (at first)) (sym z) start;
 }
@@ -140,15 +130,13 @@ module _ {net : Netlist} {P : ℕ} {first lab order : List ℕ} {k : ℕ} (w : S
     over : (v : ℕ) → v < net.nodes → P < at time v → at time v ≡ suc P
     over v h l = omega (arith, (a.reached v h).enough)
 
-    pub search_next : (next new : List ℕ) → k < net.nodes → length next ≡ length lab → length new ≡ 512 → ¬ LatePin net.kind time net.nodes P
+    pub search_next : (next new : List ℕ) → k < net.nodes → ¬ LatePin net.kind time net.nodes P
         → Lifted net.nodes P time lab next → Parted order time P net.nodes new → Searching net P first next new (k + 1)
-    search_next next new h m z n l p = record {
+    search_next next new h n l p = record {
       sure = w.sure;
       begun = w.begun;
       rounds = omega (arith, search_few);
-      size = m ∙ w.size;
-      order_size = z;
-      ordered = order_kept net P time lab next order new w.sure (after_fits wired first_fits w.after) l w.ordered p (omega (arith, search_few));
+      ordered = order_kept net P time lab next order new w.sure (after_fits wired first_fits w.after) l w.ordered p;
       after = rw add-one (round w.after
           (times_no_late_pin (at net.count) (delay_of net) P (at lab) (at time) a (λ v m p q. n (record { node = v; within = m; pin = p; late = omega arith })))
           (times_round (at net.count) (delay_of net) P (at lab) (at time) a (at next)
@@ -160,40 +148,27 @@ module _ {net : Netlist} {P : ℕ} {first lab order : List ℕ} {k : ℕ} (w : S
         low v m q = omega (arith, (a.reached v m).enough)
 
     -- The labels are legal, meet the period, and never passed those of a legal retiming that meets it (`end_least`).
-    pub search_found : ¬ Above time net.nodes P → Leasts net P (record { found = true; lab = lab })
+    pub search_found : ¬ Above time net.nodes P → Least net P lab
     unfolding lag_of
     search_found n = record {
-      least = λ _.
+      least =
           answer_least wired (at net.count) (delay_of net) 16384 P (at w.begun.far) (at first) distance from_first (at lab) k w.after
           (λ v. lag_of (at lab v))
           (λ v h. lag_label (at lab v))
           (times_none (at net.count) (delay_of net) P (at lab) (at time) a (λ v h q. n (record { node = v; within = h; above = omega arith })));
-      none = λ z. clash (cc);
       small = search_low;
     }
 
     -- A retiming that meets the period has a higher label at a late node, and no legal one has at a pin (`end_pin`).
-    pub search_pin : LatePin net.kind time net.nodes P → Leasts net P (record { found = false; lab = lab })
-    search_pin t = record {
-      least = λ z. clash (cc);
-      none = λ _.
-          answer_pin wired (at net.count) (delay_of net) 16384 P (at w.begun.far) (at first) distance from_first (at lab) k w.after
-          t.node t.pin
-          (time_late (at net.count) (delay_of net) P (at lab) (at time) a t.node t.within (over t.node t.within t.late));
-      small = search_low;
-    }
+    pub search_pin : LatePin net.kind time net.nodes P → NoneMeetsIn net P
+    search_pin t =
+        answer_pin wired (at net.count) (delay_of net) 16384 P (at w.begun.far) (at first) distance from_first (at lab) k w.after
+        t.node t.pin
+        (time_late (at net.count) (delay_of net) P (at lab) (at time) a t.node t.within (over t.node t.within t.late))
 
     -- A node that is late after as many rounds as nodes has behind it as many nodes and one, all different (`end_rounds`).
-    search_rounds : net.nodes ≤ k → Above time net.nodes P → Leasts net P (record { found = false; lab = lab })
-    search_rounds h t = record {
-      least = λ z. clash (cc);
-      none = λ _.
-          answer_rounds wired (at net.count) (delay_of net) 16384 P (at w.begun.far) (at first) distance from_first (at lab) k w.after
-          h t.node
-          (time_late (at net.count) (delay_of net) P (at lab) (at time) a t.node t.within (over t.node t.within t.above));
-      small = search_low;
-    }
-
-    pub search_last : net.nodes ≤ k → (c : Bool) → Told c (Above time net.nodes P) → Leasts net P (record { found = not c; lab = lab })
-    search_last h true t = search_rounds h t
-    search_last h false t = search_found t
+    pub search_rounds : net.nodes ≤ k → Above time net.nodes P → NoneMeetsIn net P
+    search_rounds h t =
+        answer_rounds wired (at net.count) (delay_of net) 16384 P (at w.begun.far) (at first) distance from_first (at lab) k w.after
+        h t.node
+        (time_late (at net.count) (delay_of net) P (at lab) (at time) a t.node t.within (over t.node t.within t.above))

@@ -1,7 +1,6 @@
 -- The labels to start from: sweeps over the edges until no edge offers a shorter way from a pin.
 --   State               what holds in a sweep before edge e
 --   Edge                what a sweep reads at edge e
---   Sweeping            what holds between two sweeps
 --   near_pin            every gate is within 16,384 registers of a pin
 --   far_start           the distances to start from
 --   edge_reads          the edge's numbers are in their ranges
@@ -12,6 +11,7 @@ use Prim.Native.Nat.{ℕ, ◌+◌, ◌≤◌, ◌<◌}
 use native.Mathlib.Omega.{arith}
 use native.Mathlib.Decide.{ℕ_discrete, dec_le}
 use mathlib.Core.Path.{◌≡◌, sym, subst, ◌∙◌}
+use mathlib.Core.Bool.{Bool, true, false}
 use mathlib.Core.List.{List}
 use mathlib.Core.Logic.{◌⊎◌, inl, inr, ◌≢◌}
 use lib.ListN.{length, set, length-set}
@@ -25,34 +25,26 @@ use Rattle.graph.specs.Columns.{at}
 use Rattle.netlist.specs.declared.Netlist.{Netlist}
 use Rattle.netlist.specs.Net.{graph_of, regs_of}
 use Rattle.netlist.specs.inner.Words.{PinIn}
+use Rattle.netlist.proofs.Fits.{clash}
 use Rattle.netlist.proofs.Run.{fit_rows, fit_wired}
 use Rattle.netlist.proofs.Lowest.{count_low}
 use Rattle.lags.specs.inner.Lags.{Sure}
 use Rattle.lags.specs.inner.Rounds.{Low}
 use Rattle.lags.specs.inner.Starts.{start_of, distance_sum, Far, NoShorter, Shortened, Measured, FirstLabels}
 
--- r is 1 where a distance has changed.
-pub record State (net : Netlist) (before far : List ℕ) (r e : ℕ) : Type 0 where
-  pub done : e ≤ net.edges
-  pub size : length far ≡ length before
+pub record State (net : Netlist) (before far : List ℕ) (changed : Bool) (e : ℕ) : Type 0 where
+  pub size : length far ≡ 512
   pub ways : Far net far
-  pub fallen : distance_sum net far + r ≤ distance_sum net before
-  pub passed : r ≡ 0 → NoShorter net far e
+  pub most : distance_sum net far ≤ distance_sum net before
+  pub fallen : changed ≡ true → distance_sum net far < distance_sum net before
+  pub passed : changed ≡ false → NoShorter net far e
 
 pub record Edge (net : Netlist) (far : List ℕ) (e : ℕ) : Type 0 where
   pub row : e < 1024
   pub from_node : at net.from e < 512
   pub to_node : at net.to e < 512
-  pub from_row : at net.from e < length far
-  pub to_row : at net.to e < length far
   pub few : at net.count e ≤ 32
   pub low : at far (at net.from e) ≤ 16384
-
--- Sweeps in a row, of which the last said r.
-pub record Sweeping (net : Netlist) (far : List ℕ) (r : ℕ) : Type 0 where
-  pub size : length far ≡ 512
-  pub ways : Far net far
-  pub passed : r ≡ 0 → NoShorter net far net.edges
 
 module _ (net : Netlist) (s : Sure net) where
   -- An input reaches v. A walk between the two has fewer edges than there are nodes, 511 at most, and 32 registers on each at most.
@@ -67,10 +59,9 @@ module _ (net : Netlist) (s : Sure net) where
         few = omega (arith, few_registers (at net.count) 32 (count_low net s.fit) q.0, q.1, (fit_rows net s.fit).0);
       }
 
-  pub far_start : (far : List ℕ) → length far ≡ 512 → ((v : ℕ) → v < net.nodes → at far v ≡ start_of (at net.kind v)) → Far net far
+  pub far_start : (far : List ℕ) → ((v : ℕ) → v < net.nodes → at far v ≡ start_of (at net.kind v)) → Far net far
   unfolding start_of
-  far_start far n w = record {
-    rows = omega (arith, (fit_rows net s.fit).0);
+  far_start far w = record {
     low = λ v h. low v h (dec_le (at net.kind v) 1);
     pins = λ v h p. pin v h p;
     reached = λ v h. reached v h (dec_le (at net.kind v) 1);
@@ -99,40 +90,37 @@ module _ (net : Netlist) (s : Sure net) where
         row = omega (arith, (fit_rows net s.fit).1);
         from_node = omega (arith, i.src_in e h, (fit_rows net s.fit).0);
         to_node = omega (arith, i.dst_in e h, (fit_rows net s.fit).0);
-        from_row = omega (arith, i.src_in e h, w.rows);
-        to_row = omega (arith, i.dst_in e h, w.rows);
         few = count_low net s.fit e h;
         low = w.low (at net.from e) (i.src_in e h);
       }
 
-  module _ (before far : List ℕ) (r e : ℕ) (h : e < net.edges) (t : State net before far r e) where
-    pub state_keep : at far (at net.to e) ≤ at far (at net.from e) + at net.count e → State net before far r (e + 1)
+  module _ (before far : List ℕ) (changed : Bool) (e : ℕ) (h : e < net.edges) (t : State net before far changed e) where
+    pub state_keep : at far (at net.to e) ≤ at far (at net.from e) + at net.count e → State net before far changed (e + 1)
     state_keep l = record {
-      done = omega arith;
       size = t.size;
       ways = t.ways;
+      most = t.most;
       fallen = t.fallen;
       passed = λ z k m. last z k m (ℕ_discrete k e);
     }
       where
-        last : r ≡ 0 → (k : ℕ) → k < e + 1 → Dec (k ≡ e) → at far (at net.to k) ≤ at far (at net.from k) + at net.count k
+        last : changed ≡ false → (k : ℕ) → k < e + 1 → Dec (k ≡ e) → at far (at net.to k) ≤ at far (at net.from k) + at net.count k
         last z k m (yes q) = subst (λ x. at far (at net.to x) ≤ at far (at net.from x) + at net.count x) (sym q) l
         last z k m (no q) = t.passed z k (omega arith)
 
     -- The walk to the edge's start and the edge reach the new distance. It is shorter, so the sum falls; and a pin has no shorter one.
     pub state_shorten : at far (at net.from e) + at net.count e < at far (at net.to e)
-        → State net before (set far (at net.to e) (at far (at net.from e) + at net.count e)) 1 (e + 1)
+        → State net before (set far (at net.to e) (at far (at net.from e) + at net.count e)) true (e + 1)
     state_shorten l = record {
-      done = omega arith;
       size = length-set far v d ∙ t.size;
       ways = record {
-        rows = omega (arith, length-set far v d, t.ways.rows);
         low = λ x k. omega (arith, fall x (ℕ_discrete x v), t.ways.low x k);
         pins = λ x k p. omega (arith, fall x (ℕ_discrete x v), t.ways.pins x k p);
         reached = λ x k. reached x k (ℕ_discrete x v);
       };
-      fallen = omega (arith, falls, t.fallen);
-      passed = λ z. absurd (let y : ⊥ = omega arith in y);
+      most = omega (arith, falls, t.most);
+      fallen = λ _. omega (arith, falls, t.most);
+      passed = λ z. clash (cc);
     }
       where
         v : ℕ
@@ -145,7 +133,7 @@ module _ (net : Netlist) (s : Sure net) where
         in_nodes = (fit_wired net s.fit).dst_in e h
 
         same : at (set far v d) v ≡ d
-        same = get_or-set_same far v d 0 (let y : v < length far = omega (arith, in_nodes, t.ways.rows) in y)
+        same = get_or-set_same far v d 0 (let y : v < length far = omega (arith, in_nodes, (fit_rows net s.fit).0, t.size) in y)
 
         other : (x : ℕ) → x ≢ v → at (set far v d) x ≡ at far x
         other x z = get_or-set_other far v x d 0 z
@@ -168,8 +156,8 @@ module _ (net : Netlist) (s : Sure net) where
             (from_edge e (at far (at net.from e)) h (t.ways.reached (at net.from e) ((fit_wired net s.fit).src_in e h))))
         reached x k (no z) = subst (λ n. FromPin (graph_of net) (regs_of net).count x n) (sym (other x z)) (t.ways.reached x k)
 
-  pub state_end : (before far : List ℕ) (r e : ℕ) → net.edges ≤ e → State net before far r e → Shortened net before far r
-  state_end before far r e h t = record { far = t.ways; fallen = t.fallen; passed = λ z k l. t.passed z k (omega arith) }
+  pub state_end : (before far : List ℕ) (changed : Bool) (e : ℕ) → net.edges ≤ e → State net before far changed e → Shortened net before far changed
+  state_end before far changed e h t = record { far = t.ways; fallen = t.fallen; passed = λ z k l. t.passed z k (omega arith) }
 
   -- ── In the theory's words ───────────────────────────────────────────────────────────────────
 

@@ -4,25 +4,27 @@
 // Private to the crate: `least` hands on a netlist that reads, and its edges by node.
 ghost use Rattle.std.specs.Prelude.{◌≡◌, true, false, ℕ, ◌≤◌, ◌<◌, length};
 ghost use Rattle.graph.specs.Columns.{at};
-ghost use Rattle.lags.specs.inner.Lags.{Leasts};
-ghost use Rattle.lags.specs.inner.Wires.{NodeList, Basis};
-ghost use Rattle.lags.specs.inner.Climb.{label_of, floor_of, Askable, AskedMark, Takes, Marked, SweepLeaves};
+ghost use Rattle.lags.specs.inner.Wires.{Ready};
+ghost use Rattle.lags.specs.inner.Climb.{label_of, floor_of, Askable, AskedMark, Takes, Marked, SweepLeaves, Climbs};
 
-use crate::Labels;
-use graph::{NODES, any_above};
+use crate::column::column;
+use crate::label::BIAS;
+use crate::query::Query;
+use graph::NODES;
 use netlist::Netlist;
+use rules::is_pin;
 
 // A mark is a label and a time, label · 2^20 + time: the higher label counts first, then the later time. This is one label.
-const LABEL: u64 = 1048576;
+const LABEL: u64 = 1 << 20;
 
 // Label 16,384, which is lag 0.
-const PIN: u64 = 17179869184;
+const PIN: u64 = BIAS as u64 * LABEL;
 
 // Label 16,385.
-const ABOVE: u64 = 17180917760;
+const ABOVE: u64 = PIN + LABEL;
 
 // Label 32,768: a lag has 16 bits.
-const TOP: u64 = 34359738368;
+const TOP: u64 = 2 * PIN;
 
 // So many sweeps at most. Most texts settle in a few. A loop that is just fast enough was seen to need about 200; but a round costs little more than a sweep,
 // so it is then left to the rounds, and a loop that is too slow has lost little.
@@ -37,162 +39,108 @@ pub enum Swept {
     High,
 }
 
-// Where `settled`, the labels are the answer. Else the sweeps came to no end.
+// What the climb comes to. Settled: the labels of the least retiming. Unmet: no legal retiming meets the period. Open: the sweeps came to no end.
 #[derive(Clone, Copy)]
-pub struct Climbed {
-    pub settled: bool,
-    pub labels: Labels,
+pub enum Climbed {
+    Settled([u32; NODES]),
+    Unmet,
+    Open,
 }
 
 // The mark that a node has by its kind alone.
+#[tactic(auto, unfolding(crate::specs::inner::Climb::floor_of))]
 fn floor_of(kind: u8) -> u64
     ensures { result ≡ floor_of kind }
 {
-    if kind <= 1 { PIN } else { 0 }
+    if is_pin(kind) { PIN } else { 0 }
 }
 
-// The highest mark that is asked for: the floor, or by an edge that stands from place `lo` up to `hi` of `ins` that of its source, less a label for each register.
-fn asked<'a>(
-    ins: &[u16],
-    lo: usize,
-    hi: usize,
-    from: &'a [u16],
-    count: &'a [u8],
-    mark: &[u64],
-    floor: u64,
-) -> u64
-    requires { Askable ins.now from.now count.now mark.now lo hi × (floor < 34359738368) }
-    ensures { AskedMark ins.now from.now count.now mark.now floor lo hi result }
+// The highest mark that is asked for: the floor, or by an edge of `ins` that of its source, less a label for each register.
+fn asked(net: &Netlist, ins: &[u16], mark: &[u64; NODES], floor: u64) -> u64
+    requires { Askable net.now ins.now mark.now × (floor < TOP) }
+    ensures { AskedMark net.now ins.now mark.now floor (length ins.now) result }
 {
     let mut best = floor;
-    let mut k = lo;
-    while k < hi {
-        let e = ins[k] as usize;
-        let u = from[e] as usize;
-        let w = (count[e] as u64) * LABEL;
+    for e in ins {
+        let e = *e as usize;
+        let u = net.from[e] as usize;
+        let w = u64::from(net.count[e]) * LABEL;
         let x = mark[u];
         if best + w < x {
             best = x - w;
         }
-        k += 1;
     }
     best
 }
 
 // The mark of a node with this delay, after what is asked of it.
 fn after(asked: u64, delay: u32, period: u32) -> u64
-    requires { (asked < 34359738368) × (delay < 1000) × (period < 1000000) }
+    requires { (asked < TOP) × (delay < 1000) × (period < 1000000) }
     ensures { Takes period delay asked result }
 {
-    let d = delay as u64;
-    if asked % LABEL + d <= period as u64 {
+    let d = u64::from(delay);
+    if asked % LABEL + d <= u64::from(period) {
         return asked + d;
     }
     (asked / LABEL + 1) * LABEL + d
 }
 
-// One sweep over the nodes in their order, in place.
-fn sweep(
-    net: Netlist,
-    ins: &[u16],
-    first: &[u16],
-    order: &[u16],
-    delay: &[u32],
-    period: u32,
-    mark: &mut [u64],
-) -> Swept
-    requires { Basis net period ins.now first.now delay.now × NodeList net order.now × Marked net period mark.old }
-    ensures { SweepLeaves net period ins.now first.now delay.now mark.new result }
-{
-    let nodes = net.nodes as usize;
-    let mut changed = false;
-    let mut i = 0;
-    while i < nodes {
-        let v = order[i] as usize;
-        let lo = first[v] as usize;
-        let hi = first[v + 1] as usize;
-        let kind = net.kind[v];
-        let best = asked(ins, lo, hi, &net.from, &net.count, mark, floor_of(kind));
-        let next = after(best, delay[v], period);
-        if next != mark[v] {
-            if kind <= 1 && ABOVE <= next {
-                return Swept::Late;
-            }
-            if TOP <= next {
-                return Swept::High;
-            }
-            mark[v] = next;
-            changed = true;
-        }
-        i += 1;
-    }
-    if changed { Swept::Moved } else { Swept::Still }
-}
-
 // The labels of the marks.
-fn labels_of(mark: &[u64], nodes: usize) -> [u32; NODES]
-    requires { (nodes ≤ length mark.now) × (nodes ≤ 512) × ((v : ℕ) → v < nodes → at mark.now v < 34359738368) }
+fn labels_of(mark: &[u64; NODES], nodes: usize) -> [u32; NODES]
+    requires { (nodes ≤ 512) × ((v : ℕ) → v < nodes → at mark.now v < TOP) }
     ensures { (v : ℕ) → v < nodes → at result v ≡ label_of (at mark.now v) }
 {
-    let mut lab = [0u32; NODES];
-    let mut v = 0;
-    while v < nodes {
-        lab[v] = (mark[v] / LABEL) as u32;
-        v += 1;
-    }
-    lab
+    column(nodes, 0, |v| (mark[v] / LABEL) as u32)
 }
 
-// No legal retiming meets the period, or it is left open.
-fn without(settled: bool) -> Climbed
-    ensures { (result.settled ≡ settled) × (result.labels.found ≡ false) × ((v : ℕ) → v < 512 → at result.labels.lab v ≡ 0) }
-{
-    Climbed {
-        settled,
-        labels: Labels {
-            found: false,
-            lab: [0; NODES],
-        },
-    }
-}
-
-// Sweeps from the lowest marks on, until nothing changes.
-pub fn climb(
-    net: Netlist,
-    ins: &[u16],
-    first: &[u16],
-    order: &[u16],
-    delay: &[u32],
-    period: u32,
-) -> Climbed
-    requires { Basis net period ins.now first.now delay.now × NodeList net order.now }
-    ensures { result.settled ≡ true → Leasts net period result.labels }
-{
-    let nodes = net.nodes as usize;
-    if any_above(delay, nodes, period) {
-        return without(true);
-    }
-    let mut mark = [0u64; NODES];
-    let mut sweeps = 0;
-    while sweeps < SWEEPS {
-        let said = sweep(net, ins, first, order, delay, period, &mut mark);
-        match said {
-            Swept::Still => {
-                let lab = labels_of(&mark, nodes);
-                return Climbed {
-                    settled: true,
-                    labels: Labels { found: true, lab },
-                };
-            }
-            Swept::Moved => {}
-            Swept::Late => {
-                return without(true);
-            }
-            Swept::High => {
-                return without(false);
+impl<'a> Query<'a> {
+    // One sweep over the nodes in their order, in place.
+    #[tactic(auto, using(crate::proofs::Wires::reads))]
+    fn sweep(&self, mark: &mut [u64; NODES]) -> Swept
+        requires { Ready self.now × Marked self.now.net.now self.now.period mark.old }
+        ensures { SweepLeaves self.now.net.now self.now.period mark.new result }
+    {
+        let net = self.net;
+        let ground = self.ground;
+        let mut changed = false;
+        for i in 0..net.nodes as usize {
+            let v = ground.order[i] as usize;
+            let kind = net.kind[v];
+            let best = asked(net, self.entering(v), mark, floor_of(kind));
+            let next = after(best, ground.delay[v], self.period);
+            if next != mark[v] {
+                if is_pin(kind) && ABOVE <= next {
+                    return Swept::Late;
+                }
+                if TOP <= next {
+                    return Swept::High;
+                }
+                mark[v] = next;
+                changed = true;
             }
         }
-        sweeps += 1;
+        if changed { Swept::Moved } else { Swept::Still }
     }
-    without(false)
+
+    // Sweeps from the lowest marks on, until nothing changes.
+    #[tactic(auto, using(crate::proofs::Wires::reads))]
+    pub fn climb(&self) -> Climbed
+        requires { Ready self.now }
+        ensures { Climbs self.now.net.now self.now.period result }
+    {
+        let nodes = self.net.nodes as usize;
+        if self.any_late(&self.ground.delay) {
+            return Climbed::Unmet;
+        }
+        let mut mark = [0u64; NODES];
+        for _sweep in 0..SWEEPS {
+            match self.sweep(&mut mark) {
+                Swept::Still => return Climbed::Settled(labels_of(&mark, nodes)),
+                Swept::Moved => {}
+                Swept::Late => return Climbed::Unmet,
+                Swept::High => return Climbed::Open,
+            }
+        }
+        Climbed::Open
+    }
 }

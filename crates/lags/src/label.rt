@@ -14,7 +14,7 @@ const SIGNED_BIAS: i32 = BIAS as i32;
 pub fn up_of(label: u32) -> u32
     ensures { result ≡ up (lag_of label) }
 {
-    if BIAS < label { label - BIAS } else { 0 }
+    label.saturating_sub(BIAS)
 }
 
 // The lag of a label.

@@ -2,8 +2,10 @@
 #![tactic(auto)]
 
 mod climb;
+mod column;
 mod label;
 mod order;
+mod query;
 mod rounds;
 mod start;
 mod times;
@@ -12,72 +14,57 @@ ghost use Rattle.std.specs.Prelude.{◌<◌};
 ghost use Rattle.lags.specs.inner.Lags.{Sure, Leasts};
 ghost use Rattle.lags.specs.inner.Wires.{Grounded};
 
-use climb::climb;
-use graph::{EDGES, NODES, evaluation_order, sort_by};
+use climb::Climbed;
+use graph::{EdgesByNode, NODES, edges_by_node};
 pub use label::{BIAS, lag_of, up_of};
 use netlist::Netlist;
-use rounds::by_rounds;
+use order::order_by;
+use query::Query;
 use times::working_delays;
 
-// `found`: a legal retiming meets the period, and these are the least one's.
-#[derive(Clone, Copy)]
-pub struct Labels {
-    pub found: bool,
-    pub lab: [u32; NODES],
-}
-
-// What the search goes by and no period plays a part in: the nodes in an order that can be evaluated, the edges by the node that they enter
-// (`first` has the place where each node's begin), and the working delays.
+// What the search goes by and no period plays a part in: the nodes in an order that can be evaluated, the edges by the node that they enter,
+// and the working delays.
 #[derive(Clone, Copy)]
 pub struct Ground {
     pub order: [u16; NODES],
-    pub ins: [u16; EDGES],
-    pub first: [u16; NODES + 1],
+    pub ins: EdgesByNode,
     pub delay: [u32; NODES],
 }
 
 // Found once for all periods. What is required, `Sure`, is true of every netlist that reads (proofs/Laws, `read_sure`).
+#[tactic(auto, using(crate::proofs::Wires::reads))]
 pub fn ground_of(net: Netlist) -> Ground
     requires { Sure net }
     ensures { Grounded net result }
 {
-    let nodes = net.nodes as usize;
-    let edges = net.edges as usize;
-    let order = evaluation_order(&net.from, &net.to, &net.count, nodes, edges);
-    let mut ins = [0u16; EDGES];
-    let mut first = [0u16; NODES + 1];
-    sort_by(&net.to, edges, nodes, &mut ins, &mut first);
-    let delay = working_delays(&net.delay, net.derate, nodes);
     Ground {
-        order,
-        ins,
-        first,
-        delay,
+        order: order_by(&net, &net.count),
+        ins: edges_by_node(&net.to, net.nodes as usize, net.edges as usize),
+        delay: working_delays(&net),
     }
 }
 
-// The labels of the least retiming at a period, or that no legal retiming meets it.
-// The columns are copied first: a call can borrow several fields of one record for one lifetime only, and `climb` has one for each column.
-pub fn least_at(net: Netlist, ground: Ground, period: u32) -> Labels
-    requires { Sure net × Grounded net ground × (period < 1000000) }
+// The labels of the least retiming at a period, or none where no legal retiming meets it.
+pub fn least_at(net: Netlist, ground: &Ground, period: u32) -> Option<[u32; NODES]>
+    requires { Sure net × Grounded net ground.now × (period < 1000000) }
     ensures { Leasts net period result }
 {
-    let order = ground.order;
-    let ins = ground.ins;
-    let first = ground.first;
-    let delay = ground.delay;
-    let climbed = climb(net, &ins, &first, &order, &delay, period);
-    if climbed.settled {
-        let labels = climbed.labels;
-        return labels;
+    let query = Query {
+        net: &net,
+        ground,
+        period,
+    };
+    match query.climb() {
+        Climbed::Settled(labels) => Some(labels),
+        Climbed::Unmet => None,
+        Climbed::Open => query.by_rounds(),
     }
-    by_rounds(net, &ins, &first, &delay, period)
 }
 
 // The same, where one period is asked for.
-pub fn least(net: Netlist, period: u32) -> Labels
+pub fn least(net: Netlist, period: u32) -> Option<[u32; NODES]>
     requires { Sure net × (period < 1000000) }
     ensures { Leasts net period result }
 {
-    least_at(net, ground_of(net), period)
+    least_at(net, &ground_of(net), period)
 }

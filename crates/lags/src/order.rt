@@ -1,13 +1,16 @@
 // The order that the rounds go by: each node stands after the source of every edge that enters it and is empty under the labels.
 // A round keeps it, once the late nodes are put first: proofs/Orders, `order_kept`.
 // Private to the crate: `least` hands on a netlist that reads.
-ghost use Rattle.std.specs.Prelude.{ℕ, ◌-◌, ◌+◌, ◌≤◌, ◌<◌, length};
-ghost use Rattle.graph.specs.Columns.{at};
-ghost use Rattle.graph.specs.inner.Lists.{Appended};
+ghost use Rattle.std.specs.Prelude.{List, ℕ, ◌-◌, ◌+◌, ◌<◌};
+ghost use Rattle.theory.specs.Walk.{Loop};
+ghost use Rattle.graph.specs.Columns.{at, column_graph};
+ghost use Rattle.graph.specs.inner.Sort.{Ordered};
 ghost use Rattle.lags.specs.inner.Lags.{Sure};
-ghost use Rattle.lags.specs.inner.Rounds.{Low, HeldAt, Held, LabelOrder, Parts, Parted};
+ghost use Rattle.lags.specs.inner.Rounds.{Low, HeldAt, Held, LabelOrder, Nodes, Parts, Parted};
 
-use graph::{EDGES, NODES, evaluation_order};
+use crate::column::column;
+use crate::query::Query;
+use graph::{EDGES, NODES, Wires, evaluation_order};
 use netlist::Netlist;
 
 // 0 for an edge that is empty under the labels of its ends, else 1.
@@ -15,85 +18,81 @@ fn registered(start: u32, count: u8, end: u32) -> u8
     requires { end < 32768 }
     ensures { HeldAt start count end result }
 {
-    if start == (count as u32) + end { 0 } else { 1 }
+    u8::from(start != u32::from(count) + end)
 }
 
 // So for each edge.
-fn registers_under(net: Netlist, lab: &[u32]) -> [u8; EDGES]
-    requires { Sure net × Low net.nodes lab.now × (net.nodes ≤ length lab.now) }
-    ensures { Held net lab.now result }
+#[tactic(auto, using(crate::proofs::Wires::reads))]
+fn registers_under(net: &Netlist, lab: &[u32; NODES]) -> [u8; EDGES]
+    requires { Sure net.now × Low net.now.nodes lab.now }
+    ensures { Held net.now lab.now result }
 {
-    let edges = net.edges as usize;
-    let mut out = [0u8; EDGES];
-    let mut e = 0;
-    while e < edges {
+    column(net.edges as usize, 0, |e| {
         let u = net.from[e] as usize;
         let v = net.to[e] as usize;
-        out[e] = registered(lab[u], net.count[e], lab[v]);
-        e += 1;
-    }
-    out
+        registered(lab[u], net.count[e], lab[v])
+    })
+}
+
+// An evaluation order of the nodes, where `count` has the registers of the edges.
+#[tactic(auto, using(crate::proofs::Wires::reads))]
+pub fn order_by(net: &Netlist, count: &[u8; EDGES]) -> [u16; NODES]
+    requires sure { Sure net.now }
+    requires no_loop { (kind : List ℕ) → ¬ Loop (column_graph net.now.nodes net.now.edges kind net.now.from net.now.to) (at count.now) }
+    ensures { Ordered net.now.nodes net.now.edges net.now.from net.now.to count.now result }
+{
+    let wires = Wires {
+        nodes: net.nodes as usize,
+        edges: net.edges as usize,
+        from: &net.from,
+        to: &net.to,
+    };
+    evaluation_order(wires, count)
 }
 
 // An order under the labels. There is one: the registers of a loop are as many under the labels as they were.
-pub fn order_under(net: Netlist, lab: &[u32]) -> [u16; NODES]
-    requires { Sure net × Low net.nodes lab.now × (net.nodes ≤ length lab.now) }
-    ensures { LabelOrder net lab.now result }
+pub fn order_under(net: &Netlist, lab: &[u32; NODES]) -> [u16; NODES]
+    requires { Sure net.now × Low net.now.nodes lab.now }
+    ensures { LabelOrder net.now lab.now result }
 {
-    let nodes = net.nodes as usize;
-    let edges = net.edges as usize;
-    let held = registers_under(net, lab);
-    evaluation_order(&net.from, &net.to, &held, nodes, edges)
+    order_by(net, &registers_under(net, lab))
 }
 
-// The late nodes of an order into one list and the others into another. How many are late.
-fn part(
-    order: &[u16],
-    time: &[u32],
-    nodes: usize,
-    period: u32,
-    late: &mut [u16],
-    rest: &mut [u16],
-) -> usize
-    requires nodes_in_bounds { (nodes ≤ length order.now) × (nodes ≤ length late.old) × (nodes ≤ length rest.old) }
-    requires by_index { (p : ℕ) → p < nodes → at order.now p < length time.now }
-    ensures { Parts order.now time.now period nodes late.new rest.new result (nodes - result) }
-{
-    let mut n = 0;
-    let mut i = 0;
-    while i < nodes {
-        let v = order[i];
-        if period < time[v as usize] {
-            late[n] = v;
-            n += 1;
-        } else {
-            rest[i - n] = v;
+impl<'a> Query<'a> {
+    // The late nodes of an order into one list and the others into another. How many are late.
+    fn part(
+        &self,
+        order: &[u16; NODES],
+        time: &[u32; NODES],
+        late: &mut [u16; NODES],
+        rest: &mut [u16; NODES],
+    ) -> usize
+        requires { Nodes self.now.net.now.nodes order.now }
+        ensures { Parts order.now time.now self.now.period self.now.net.now.nodes late.new rest.new result (self.now.net.now.nodes - result) }
+    {
+        let mut n = 0;
+        for i in 0..self.net.nodes as usize {
+            let v = order[i];
+            if self.period < time[v as usize] {
+                late[n] = v;
+                n += 1;
+            } else {
+                rest[i - n] = v;
+            }
         }
-        i += 1;
+        n
     }
-    n
-}
 
-// The first `many` of a list into another, from place `start` on.
-fn append(rest: &[u16], many: usize, start: usize, list: &mut [u16])
-    requires { (many ≤ length rest.now) × (start + many ≤ length list.old) }
-    ensures { Appended (at rest.now) list.old list.new 0 many start }
-{
-    let mut k = 0;
-    while k < many {
-        list[start + k] = rest[k];
-        k += 1;
+    // The late nodes first, in their order, then the others, in theirs.
+    pub fn parted(&self, order: &[u16; NODES], time: &[u32; NODES]) -> [u16; NODES]
+        requires { Nodes self.now.net.now.nodes order.now }
+        ensures { Parted order.now time.now self.now.period self.now.net.now.nodes result }
+    {
+        let nodes = self.net.nodes as usize;
+        let mut late = [0u16; NODES];
+        let mut rest = [0u16; NODES];
+        let n = self.part(order, time, &mut late, &mut rest);
+        late[n..nodes].copy_from_slice(&rest[..nodes - n]);
+        late
     }
-}
-
-// The late nodes first, in their order, then the others, in theirs.
-pub fn parted(order: &[u16], time: &[u32], nodes: usize, period: u32) -> [u16; NODES]
-    requires { (nodes ≤ 512) × (nodes ≤ length order.now) × ((p : ℕ) → p < nodes → at order.now p < length time.now) }
-    ensures { Parted order.now time.now period nodes result }
-{
-    let mut late = [0u16; NODES];
-    let mut rest = [0u16; NODES];
-    let n = part(order, time, nodes, period, &mut late, &mut rest);
-    append(&rest, nodes - n, n, &mut late);
-    late
 }

@@ -1,89 +1,65 @@
 // The labels to start from: 16,384 less the fewest registers between a pin and the node. No legal retiming has a lower one.
 // What is required, `Sure`, is true of every netlist that reads (proofs/Laws, `read_sure`).
-ghost use Rattle.std.specs.Prelude.{◌≡◌, ℕ, ◌+◌, ◌≤◌, ◌<◌, length};
+ghost use Rattle.std.specs.Prelude.{◌≡◌, ℕ, ◌≤◌, ◌<◌};
 ghost use Rattle.graph.specs.Columns.{at};
 ghost use Rattle.lags.specs.inner.Lags.{Sure};
 ghost use Rattle.lags.specs.inner.Starts.{start_of, Far, Shortened, Measured, FirstLabels};
 
+use crate::column::column;
 use crate::label::BIAS;
 use graph::NODES;
 use netlist::Netlist;
+use rules::is_pin;
 
-// A node's distance to start from: 0 at a pin, elsewhere more than any.
-fn start_of(kind: u8) -> u32
-    ensures { result ≡ start_of kind }
+// The distances to start from: 0 at a pin, elsewhere more than any.
+fn first_distances(net: &Netlist) -> [u32; NODES]
+    requires { net.now.nodes ≤ 512 }
+    ensures { (v : ℕ) → v < net.now.nodes → at result v ≡ start_of (at net.now.kind v) }
 {
-    if kind <= 1 { 0 } else { BIAS }
+    column(
+        net.nodes as usize,
+        0,
+        |v| if is_pin(net.kind[v]) { 0 } else { BIAS },
+    )
 }
 
-// The distances to start from.
-fn start_far(kind: &[u8], nodes: usize) -> [u32; NODES]
-    requires { (nodes ≤ length kind.now) × (nodes ≤ 512) }
-    ensures { (v : ℕ) → v < nodes → at result v ≡ start_of (at kind.now v) }
+// One sweep over all edges, in place: an edge that offers a shorter way shortens. Whether a distance has changed.
+#[tactic(auto, using(crate::proofs::Wires::reads))]
+fn shorten(net: &Netlist, far: &mut [u32; NODES]) -> bool
+    requires { Sure net.now × Far net.now far.old }
+    ensures { Shortened net.now far.old far.new result }
 {
-    let mut far = [0u32; NODES];
-    let mut v = 0;
-    while v < nodes {
-        far[v] = start_of(kind[v]);
-        v += 1;
-    }
-    far
-}
-
-// One sweep over all edges, in place: an edge that offers a shorter way shortens. 1 where a distance has changed, else 0.
-fn shorten(net: Netlist, far: &mut [u32]) -> u32
-    requires { Sure net × Far net far.old }
-    ensures { Shortened net far.old far.new result }
-{
-    let edges = net.edges as usize;
-    let mut changed: u32 = 0;
-    let mut e = 0;
-    while e < edges {
+    let mut changed = false;
+    for e in 0..net.edges as usize {
         let u = net.from[e] as usize;
         let v = net.to[e] as usize;
-        let d = far[u] + (net.count[e] as u32);
+        let d = far[u] + u32::from(net.count[e]);
         if d < far[v] {
             far[v] = d;
-            changed = 1;
+            changed = true;
         }
-        e += 1;
     }
     changed
 }
 
 // The fewest registers between a pin and each node.
-fn distances(net: Netlist) -> [u32; NODES]
-    requires { Sure net }
-    ensures { Measured net result }
+#[tactic(auto, using(crate::proofs::Wires::reads))]
+fn distances(net: &Netlist) -> [u32; NODES]
+    requires { Sure net.now }
+    ensures { Measured net.now result }
 {
-    let mut far = start_far(&net.kind, net.nodes as usize);
-    let mut changed: u32 = 1;
-    while changed != 0 {
-        changed = shorten(net, &mut far);
-    }
+    let mut far = first_distances(net);
+    // Kept: no index is counted here. It ends, as a sweep that shortens makes the sum of the distances fall.
+    while shorten(net, &mut far) {}
     far
 }
 
-// The labels of these distances.
-fn labels_from(far: &[u32], nodes: usize) -> [u32; NODES]
-    requires nodes_in_bounds { (nodes ≤ length far.now) × (nodes ≤ 512) }
-    requires by_index { (v : ℕ) → v < nodes → at far.now v ≤ 16384 }
-    ensures { (v : ℕ) → v < nodes → at result v + at far.now v ≡ 16384 }
-{
-    let mut lab = [0u32; NODES];
-    let mut v = 0;
-    while v < nodes {
-        lab[v] = BIAS - far[v];
-        v += 1;
-    }
-    lab
-}
-
 // The labels to start from.
-pub fn first_labels(net: Netlist) -> [u32; NODES]
-    requires { Sure net }
-    ensures { FirstLabels net result }
+#[tactic(auto, using(crate::proofs::Wires::reads))]
+pub fn first_labels(net: &Netlist) -> [u32; NODES]
+    requires { Sure net.now }
+    ensures { FirstLabels net.now result }
 {
     let far = distances(net);
-    labels_from(&far, net.nodes as usize)
+    column(net.nodes as usize, 0, |v| BIAS - far[v])
 }

@@ -2,9 +2,11 @@
 // Private to the crate: `least` hands on a netlist that reads, and its edges by node.
 ghost use Rattle.std.specs.Prelude.{◌≡◌, suc, ◌+◌, min, ◌≤◌, ◌<◌, length};
 ghost use Rattle.netlist.specs.Net.{working};
-ghost use Rattle.lags.specs.inner.Wires.{Delayed, Basis};
+ghost use Rattle.lags.specs.inner.Wires.{Delayed, Ready};
 ghost use Rattle.lags.specs.inner.Rounds.{Low, LabelOrder, Readable, LatestTime, Arrived};
 
+use crate::column::column;
+use crate::query::Query;
 use graph::NODES;
 use netlist::Netlist;
 
@@ -12,22 +14,16 @@ use netlist::Netlist;
 fn working(delay: u8, derate: u8) -> u32
     ensures { (result ≡ working delay derate) × (result < 1000) }
 {
-    let x = (delay as u32) * (derate as u32);
+    let x = u32::from(delay) * u32::from(derate);
     (x + 49 + x / 100 % 2) / 100
 }
 
 // The working delays.
-pub fn working_delays(delay: &[u8], derate: u8, nodes: usize) -> [u32; NODES]
-    requires { (nodes ≤ length delay.now) × (nodes ≤ 512) }
-    ensures { Delayed delay.now derate nodes result }
+pub fn working_delays(net: &Netlist) -> [u32; NODES]
+    requires { net.now.nodes ≤ 512 }
+    ensures { Delayed net.now.delay net.now.derate net.now.nodes result }
 {
-    let mut out = [0u32; NODES];
-    let mut v = 0;
-    while v < nodes {
-        out[v] = working(delay[v], derate);
-        v += 1;
-    }
-    out
+    column(net.nodes as usize, 0, |v| working(net.delay[v], net.derate))
 }
 
 // A time and a delay, where all above the period is the period and one.
@@ -35,62 +31,39 @@ fn later(t: u32, d: u32, period: u32) -> u32
     requires { (t ≤ suc period) × (d < 1000) × (period < 1000000) }
     ensures { result ≡ min (suc period) (t + d) }
 {
-    let s = t + d;
-    if period < s { period + 1 } else { s }
+    (t + d).min(period + 1)
 }
 
-// The latest time of a source, of the edges from place `lo` up to `hi` of `ins` that are empty under the labels. `here` is the label of the node that they enter.
-fn latest<'a>(
-    ins: &[u16],
-    lo: usize,
-    hi: usize,
-    from: &'a [u16],
-    count: &'a [u8],
-    lab: &[u32],
-    here: u32,
-    time: &[u32],
-) -> u32
-    requires { Readable ins.now from.now count.now lab.now time.now here lo hi }
-    ensures { LatestTime ins.now from.now count.now lab.now time.now here lo hi result }
+// The latest time of a source, of the edges `ins` that are empty under the labels. `here` is the label of the node that they enter.
+fn latest(net: &Netlist, ins: &[u16], lab: &[u32; NODES], time: &[u32; NODES], here: u32) -> u32
+    requires { Readable net.now ins.now × (here < 32768) }
+    ensures { LatestTime net.now ins.now lab.now time.now here (length ins.now) result }
 {
     let mut best = 0;
-    let mut k = lo;
-    while k < hi {
-        let e = ins[k] as usize;
-        let u = from[e] as usize;
-        let t = time[u];
-        if lab[u] == (count[e] as u32) + here && best < t {
-            best = t;
+    for e in ins {
+        let e = *e as usize;
+        let u = net.from[e] as usize;
+        if lab[u] == u32::from(net.count[e]) + here {
+            best = time[u].max(best);
         }
-        k += 1;
     }
     best
 }
 
-// The arrival times under the labels: where a node stands in the order, all that its time depends on is known.
-pub fn arrivals(
-    net: Netlist,
-    ins: &[u16],
-    first: &[u16],
-    order: &[u16],
-    delay: &[u32],
-    lab: &[u32],
-    period: u32,
-) -> [u32; NODES]
-    requires basis { Basis net period ins.now first.now delay.now }
-    requires low { Low net.nodes lab.now × (net.nodes ≤ length lab.now) × LabelOrder net lab.now order.now }
-    ensures { Arrived net period lab.now result }
-{
-    let nodes = net.nodes as usize;
-    let mut time = [0u32; NODES];
-    let mut i = 0;
-    while i < nodes {
-        let v = order[i] as usize;
-        let lo = first[v] as usize;
-        let hi = first[v + 1] as usize;
-        let best = latest(ins, lo, hi, &net.from, &net.count, lab, lab[v], &time);
-        time[v] = later(best, delay[v], period);
-        i += 1;
+impl<'a> Query<'a> {
+    // The arrival times under the labels: where a node stands in the order, all that its time depends on is known.
+    #[tactic(auto, using(crate::proofs::Wires::reads))]
+    pub fn arrivals(&self, order: &[u16; NODES], lab: &[u32; NODES]) -> [u32; NODES]
+        requires basis { Ready self.now }
+        requires low { Low self.now.net.now.nodes lab.now × LabelOrder self.now.net.now lab.now order.now }
+        ensures { Arrived self.now.net.now self.now.period lab.now result }
+    {
+        let mut time = [0u32; NODES];
+        for i in 0..self.net.nodes as usize {
+            let v = order[i] as usize;
+            let best = latest(self.net, self.entering(v), lab, &time, lab[v]);
+            time[v] = later(best, self.ground.delay[v], self.period);
+        }
+        time
     }
-    time
 }

@@ -2,18 +2,15 @@
 // complement); or its refusal: `0F`, number (1), place kind (1: 00 whole, 01 line, 02 node, 03 edge), place (2, 0 for whole).
 #![tactic(auto)]
 
-// File descriptors.
-const STDIN: i32 = 0;
-
-const STDOUT: i32 = 1;
+use std::io;
+use std::io::{Read, Write};
 
 // "a text of up to 32,768 bytes (more decides nothing)".
 const LONGEST: usize = 32768;
 
-fn main() {
-    let mut text = [0u8; LONGEST];
-    let n = io::read_full(STDIN, &mut text);
-    let listing = printing::listing(&text[..n]);
-    let bytes = listing.bytes;
-    io::write_all(STDOUT, &bytes[..listing.len]);
+fn main(rt: HostRuntime) -> io::Result<()> {
+    let mut text = Vec::new(rt.alloc());
+    rt.reader().take(LONGEST as u64).read_to_end(&mut text)?;
+    let listing = printing::listing(&text);
+    io::writer(&rt).write_all(&listing.bytes[..listing.len])
 }

@@ -6,6 +6,7 @@ use Prim.Native.Nat.{ℕ, ◌+◌, ◌≤◌, ◌<◌, min}
 use native.Mathlib.Omega.{arith}
 use mathlib.Core.Path.{◌≡◌, subst, ap₂, ◌∙◌}
 use mathlib.Core.List.{List}
+use Rattle.std.proofs.Common.{None}
 use Rattle.theory.specs.Lag.{up}
 use Rattle.theory.specs.Move.{sum}
 use Rattle.graph.specs.Columns.{at}
@@ -14,7 +15,7 @@ use Rattle.netlist.specs.Circuit.{NarrowAt, WideAt}
 use Rattle.netlist.proofs.Run.{fit_rows, fit_wired}
 use Rattle.lags.specs.inner.Lags.{lag_of}
 use Rattle.lags.proofs.Laws.{lag_label}
-use Rattle.moves.specs.inner.Labels.{lags_of, Labelled, count_at, Counts, Wide, chosen_at}
+use Rattle.moves.specs.inner.Labels.{lags_of, Labelled, count_at, Counts, WideEdge, Wide, chosen_at}
 
 module _ (net : Netlist) (lab : List ℕ) (s : Labelled net lab) (e : ℕ) (h : e < net.edges) where
   pub from_node : at net.from e < net.nodes
@@ -40,17 +41,15 @@ low_edges net lab s = (fit_rows net s.fit).1
 
 -- ── Counts above 32 ─────────────────────────────────────────────────────────────────────────
 
-pub wide_edge : (net : Netlist) (lab counts : List ℕ) (r : ℕ) → Counts net lab counts → Wide counts net.edges r → r < net.edges
-    → WideAt net (lags_of lab) r
-wide_edge net lab counts r c w h = record {
-  edge = h;
-  wide = subst (λ x. 32 < x) (c r h) (w.wide h);
-  lowest = λ i l. subst (λ x. x ≤ 32) (c i (omega arith)) (w.low i l);
+pub wide_edge : (net : Netlist) (lab counts : List ℕ) (e : ℕ) → Counts net lab counts → WideEdge counts net.edges e → WideAt net (lags_of lab) e
+wide_edge net lab counts e c w = record {
+  edge = w.inside;
+  wide = subst (λ x. 32 < x) (c e w.inside) w.wide;
+  lowest = λ i l. subst (λ x. x ≤ 32) (c i (omega (arith, w.inside))) (w.low i l);
 }
 
-pub wide_none : (net : Netlist) (lab counts : List ℕ) (r : ℕ) → Counts net lab counts → Wide counts net.edges r → ¬ (r < net.edges)
-    → NarrowAt net (lags_of lab)
-wide_none net lab counts r c w h e l = subst (λ x. x ≤ 32) (c e l) (w.low e (omega arith))
+pub wide_none : (net : Netlist) (lab counts : List ℕ) → Counts net lab counts → Wide counts net.edges None → NarrowAt net (lags_of lab)
+wide_none net lab counts c w e l = subst (λ x. x ≤ 32) (c e l) (w e l)
 
 -- ── Chosen values ───────────────────────────────────────────────────────────────────────────
 

@@ -21,9 +21,11 @@ pub mod Decide
 pub mod Alike
 -- The theorems of specs/Theorems.
 pub mod theorems
+-- What leaves by a `?`.
+pub mod Exits
 -- From what a stage answered to what reading and writing say.
 pub mod Answered
--- What a record in code holds; a record checked: one line more tested, one row more copied.
+-- What a record in code holds; a record checked.
 pub mod Typed
 pub mod Checked
 -- A text read and written again.

@@ -3,33 +3,29 @@
 --   laid                a record whose lines are right, in columns
 --   fan_test            the test of rule 5 says whether a node keeps it
 --   fan_low, fan_three  by rule 5 no node is entered by more than 8 edges, and a selector is by three
---   joined_yes, unfed, unused    the tests of rule 7
+--   reach_test, turned  the test of rule 7 says whether a node keeps it
 --   told_yes, told_no   what an answer says
---   sought_lowest, sought_none    a search that stops at the first node that breaks the rule, or finds none
 use Prim.Native.Nat.{ℕ, ◌≤◌, ◌<◌}
-use mathlib.Core.Path.{◌≡◌, refl, sym, subst}
-use mathlib.Core.Bool.{Bool, true, false, cond}
+use mathlib.Core.Path.{◌≡◌, sym, subst}
+use mathlib.Core.Bool.{Bool, true, false, cond, ◌&&◌}
+use mathlib.Core.List.{List}
 use native.Mathlib.Omega.{arith}
-use borrow.Author.Tests.{le-leb, eq-eqb, ne_eqb}
-use lib.Dec.{eqb, ltb}
+use borrow.Author.Tests.{le-leb}
+use lib.Dec.{ltb}
 use lib.ListN.{length}
 use Rattle.frame.specs.Frame.{within}
 use Rattle.theory.specs.Graph.{Graph, Wired}
-use Rattle.graph.specs.Columns.{at, fan_in}
+use Rattle.graph.specs.Columns.{at, column_graph, fan_in}
 use Rattle.graph.specs.Layers.{Told}
 use Rattle.graph.specs.inner.Laid.{reverse, From, Laid}
 use Rattle.graph.proofs.Laws.{from_input, input_from, to_output, output_from}
 use Rattle.netlist.specs.declared.Netlist.{Netlist}
 use Rattle.netlist.specs.Net.{graph_of}
-use Rattle.netlist.specs.Answer.{value, at_node}
-use Rattle.netlist.specs.Order.{here, past}
 use Rattle.rules.specs.Rules.{rule_of}
-use Rattle.netlist.specs.Read.{FanInFits, InReach, All, FanInsFit}
-use Rattle.netlist.specs.inner.Stages.{Sought}
+use Rattle.netlist.specs.Read.{FanInFits, InReach, FanInsFit}
 use Rattle.netlist.specs.Theorems.{Fit}
 use Rattle.netlist.proofs.Fits.{clash, within_true, node_fits_means, edge_fits_means}
 use Rattle.netlist.proofs.Run.{fit_rows, fit_wired}
-use Rattle.netlist.proofs.Judged.{all_none}
 
 pub kind_low : (net : Netlist) → Fit net → (v : ℕ) → v < net.nodes → at net.kind v < 11
 kind_low net f v h = omega (arith, (node_fits_means (at net.kind v) (at net.delay v) (f.node v h)).0)
@@ -84,20 +80,13 @@ fan_three net fan v h e =
 
 -- ── Rule 7 ──────────────────────────────────────────────────────────────────────────────────
 
-module _ {G : Graph} (w : Wired G) (v fed used : ℕ) (f : Told (eqb fed 1) (From G 0 v)) (u : Told (eqb used 1) (From (reverse G) 1 v)) where
-  pub joined_yes : fed ≡ 1 → used ≡ 1 → InReach G v
-  joined_yes p q = (from_input (told_yes (eqb fed 1) f (eq-eqb fed 1 p)), to_output w (told_yes (eqb used 1) u (eq-eqb used 1 q)))
+module _ {G : Graph} (w : Wired G) (v : ℕ) where
+  pub reach_test : (fed used : Bool) → Told fed (From G 0 v) → Told used (From (reverse G) 1 v) → Told (fed && used) (InReach G v)
+  reach_test true true f u = (from_input f, to_output w u)
+  reach_test true false f u = λ j. u (output_from w j.1)
+  reach_test false used f u = λ j. f (input_from j.0)
 
-  pub unfed : ¬ (fed ≡ 1) → ¬ InReach G v
-  unfed n j = told_no (eqb fed 1) f (ne_eqb fed 1 n) (input_from j.0)
-
-  pub unused : ¬ (used ≡ 1) → ¬ InReach G v
-  unused n j = told_no (eqb used 1) u (ne_eqb used 1 n) (output_from w j.1)
-
--- ── A search ────────────────────────────────────────────────────────────────────────────────
-
-pub sought_lowest : {Rule : ℕ → Type 0} {n q v : ℕ} → v < n → All Rule v → ¬ Rule v → Sought Rule n q (at_node q v)
-sought_lowest {v = v} h a b = here (v, record { there = h; breaks = b; before = a }, refl)
-
-pub sought_none : {Rule : ℕ → Type 0} {n q : ℕ} → All Rule n → Sought Rule n q (value 0)
-sought_none a = past (all_none a) refl
+-- What is said of the wires turned round, is said of the graph turned round.
+pub turned : (kind from to from' to' : List ℕ) (n m n' m' : ℕ) (b : ℕ → Bool) → n' ≡ n → m' ≡ m → from' ≡ to → to' ≡ from
+    → ((v : ℕ) → v < n' → Told (b v) (From (column_graph n' m' kind from' to') 1 v)) → (v : ℕ) → v < n → Told (b v) (From (reverse (column_graph n m kind from to)) 1 v)
+turned kind from to from' to' n m n' m' b p q r s h v l = let k = h v (omega arith) in rw (p, q, r, s) at k

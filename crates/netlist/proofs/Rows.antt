@@ -1,5 +1,6 @@
 -- Rows of a record and lines of a text, one more at a time.
 --   rows_to_in, rows_to_past, rows_to_is  a column's rows; that a column with 0 past its n-th row is one
+--   front_rows          the first rows of a column, and 0 in the others, are one
 --   set_past            a column is 0 past its rows after one more is set
 --   rows_length, rows_in, rows_at    n rows of one member each: how many there are; the i-th, whatever stands past them
 --   joined_same         the joined lines depend on the lines that are joined
@@ -9,8 +10,9 @@ use native.Mathlib.Omega.{arith}
 use native.Mathlib.Decide.{ℕ_discrete, dec_lt}
 use mathlib.Core.Path.{◌≡◌, refl, sym, ap, ap₂, ◌∙◌}
 use mathlib.Core.List.{List, [], ◌∷◌, ◌++◌, append_assoc, append-nil}
-use lib.ListN.{length, get_or, set, replicate, length-append, length-set, length-replicate, get_or-replicate, get_or-append, get_or-eq_default}
-use lib.Seq.{get_or_at, get_or-set_other, ext_get_or}
+use lib.ListN.{length, get_or, set, take, drop, replicate, length-append, length-set, length-replicate, get_or-replicate, get_or-append, get_or-eq_default}
+use lib.Seq.{drop-cons, take-suc, length-take-le, get_or_at, get_or-set_other, ext_get_or}
+use Rattle.std.proofs.lemmas.List.{set_at}
 use Rattle.graph.proofs.Fills.{fill_more}
 use Rattle.netlist.specs.Net.{zeros}
 use Rattle.netlist.specs.Write.{joined}
@@ -57,6 +59,19 @@ rows_to_is m n xs q h past = ext_get_or 0 (rows_to m f n) xs (length_rows_to m f
     go : (i : ℕ) → Dec (i < n) → get_or (rows_to m f n) i 0 ≡ get_or xs i 0
     go i (yes l) = rows_to_in m f n h i l
     go i (no l) = rows_to_past m f n i (omega arith) ∙ sym (past i (omega arith))
+
+-- The front of a column, and 0 in the others.
+pub front_rows : (m n : ℕ) (xs : List ℕ) → length xs ≡ m → n ≤ m → take n xs ++ drop n (replicate m 0) ≡ rows_to m (λ i. get_or xs i 0) n
+unfolding rows_to zeros
+front_rows m zero xs q h = refl
+front_rows m (suc n) xs q h =
+    let l : n < length xs = omega arith in
+    let z : n < length (replicate {A = ℕ} m 0) = simp length-replicate (omega arith) in
+    let a = get_or xs n 0 in
+    let rest : List ℕ = drop (suc n) (replicate m 0) in
+    ap (λ r. r ++ rest) (take-suc xs n 0 l) ∙ append_assoc (take n xs) (a ∷ []) rest
+    ∙ sym (ap (λ r. set r n a) (sym (front_rows m n xs q (omega arith)) ∙ ap (λ r. take n xs ++ r) (drop-cons (replicate m 0) n 0 z))
+    ∙ set_at (take n xs) (get_or (replicate m 0) n 0) rest a n (length-take-le n xs (omega arith)))
 
 -- ── Lines ───────────────────────────────────────────────────────────────────────────────────
 

@@ -1,15 +1,17 @@
 -- The netlist record: a row of each kind put in, and the circuit that it stands for.
 --   net_with                                  the record with these fields
 --   empty_net, with_head, with_node, with_edge  the record as reading fills it
+--   net_of                                    what a call's result gives: the record, or an empty one where it refuses
 --   at_period, with_columns                   the record with another period; with other columns of counts and start values
 --   plain                                     the record as a retimed one is written
 --   rounded, working                          hundredths rounded to a whole number; a working delay
 --   graph_of, regs_of, delay_of               the theory's graph and registers, and the working delays
-use Rattle.std.specs.Prelude.{cond, List, ℕ, ◌+◌, ◌*◌, ◌/◌, ◌%◌, eqb, ltb, get_or, set, replicate}
+use Rattle.std.specs.Prelude.{cond, List, ℕ, ◌+◌, ◌*◌, ◌/◌, ◌%◌, eqb, ltb, get_or, set, replicate, Result, Ok, Err}
 use Rattle.theory.specs.Graph.{Graph}
 use Rattle.theory.specs.Clock.{Regs}
 use Rattle.graph.specs.Columns.{bit, column_graph}
 use Rattle.netlist.specs.declared.Netlist.{Netlist}
+use Rattle.netlist.specs.declared.Refusal.{Refusal}
 
 -- Shut, so that no goal shows 512 rows.
 unfoldable pub zeros : ℕ → List ℕ
@@ -25,6 +27,10 @@ with_head p d n e = net_with p d n e (zeros 512) (zeros 512) (zeros 1024) (zeros
 
 abbrev pub empty_net : Netlist
 empty_net = with_head 0 0 0 0
+
+abbrev pub net_of : Result Netlist Refusal → Netlist
+net_of (Ok net) = net
+net_of (Err r) = empty_net
 
 abbrev pub with_node : Netlist → ℕ → ℕ → ℕ → Netlist
 with_node net i k d =

@@ -15,10 +15,11 @@
 --   RecordRowsUnread                       rows past the netlist's are read by nothing
 --   SomeWalk, OneWalk                      every text has a walk of so many passes, and its marks are determined
 --   WalkBegins, WalkEnds                   what is marked before the first pass, and where a pass marked nothing
-use Rattle.std.specs.Prelude.{◌≡◌, Bool, true, false, ◌↔◌, List, [], ◌++◌, ℕ, ◌+◌, ◌*◌, ◌%◌, ◌<◌, ◌≤◌, eqb, length, get_or, take, drop}
+use Rattle.std.specs.Prelude.{◌≡◌, Bool, true, false, ◌↔◌, List, [], ◌++◌, ℕ, ◌+◌, ◌*◌, ◌%◌, ◌<◌, ◌≤◌, length, get_or, take, drop}
 use Rattle.frame.specs.Frame.{bad, frame_at, line}
 use Rattle.theory.specs.Walk.{FromInput}
 use Rattle.graph.specs.declared.layers.Layer.{Layer}
+use Rattle.graph.specs.Columns.{flag}
 use Rattle.graph.specs.Layers.{Told}
 use Rattle.netlist.specs.declared.Netlist.{Netlist}
 use Rattle.netlist.specs.Answer.{Said, value, whole, at_node, at_line}
@@ -214,14 +215,14 @@ SomeWalk = (t : List ℕ) (most : ℕ) → (s : Said) × (layer : Layer) × Walk
 -- One answer, one number of passes, and the same mark of each node.
 abbrev pub OneWalk : Type 0
 OneWalk = (t : List ℕ) (most : ℕ) (s s' : Said) (layer layer' : Layer) → Walks t most s layer → Walks t most s' layer'
-    → (s ≡ s') × (layer.passes ≡ layer'.passes) × ((n v : ℕ) → s ≡ value n → v < n → get_or layer.marks v 0 ≡ get_or layer'.marks v 0)
+    → (s ≡ s') × (layer.passes ≡ layer'.passes) × ((n v : ℕ) → s ≡ value n → v < n → flag layer.marks v ≡ flag layer'.marks v)
 
 -- "before the first just the inputs are marked"
 abbrev pub WalkBegins : Type 0
 WalkBegins = (t : List ℕ) (net : Netlist) (most : ℕ) (s : Said) (layer : Layer) → lines_of t ≡ lines net → Walks t most s layer → layer.passes ≡ 0
-    → (v : ℕ) → v < net.nodes → Told (eqb (get_or layer.marks v 0) 1) (get_or net.kind v 0 ≡ 0)
+    → (v : ℕ) → v < net.nodes → Told (flag layer.marks v) (get_or net.kind v 0 ≡ 0)
 
 -- Where fewer passes were made than were asked for, all that an input reaches is marked: what rule 7 asks, and what any more passes would mark.
 abbrev pub WalkEnds : Type 0
 WalkEnds = (t : List ℕ) (net : Netlist) (most : ℕ) (s : Said) (layer : Layer) → lines_of t ≡ lines net → Walks t most s layer → layer.passes < most
-    → (v : ℕ) → v < net.nodes → Told (eqb (get_or layer.marks v 0) 1) (FromInput (graph_of net) v)
+    → (v : ℕ) → v < net.nodes → Told (flag layer.marks v) (FromInput (graph_of net) v)

@@ -1,122 +1,79 @@
 // Rules 2 to 7 of a record, "as if its lines were read". No text is made: what is written has the form of lines, so that only their numbers can be wrong.
-ghost use Rattle.std.specs.Prelude.{◌≡◌, ◌≤◌};
-ghost use Rattle.netlist.specs.Answer.{says};
+ghost use Rattle.std.specs.Prelude.{◌≡◌, ◌≤◌, ◌++◌, take, drop, replicate};
+ghost use Rattle.netlist.specs.Answer.{says_of};
+ghost use Rattle.netlist.specs.Net.{net_of};
 ghost use Rattle.netlist.specs.Read.{Reads, kept};
 ghost use Rattle.netlist.specs.Write.{text_of};
-ghost use Rattle.netlist.specs.Theorems.{FitTo};
-ghost use Rattle.netlist.specs.inner.Record.{cut, Tested};
+ghost use Rattle.netlist.specs.inner.Record.{cut};
 
+use crate::finding::lowest;
 use crate::judging::judge;
-use crate::lines::{FIRST_LINE, with_head};
-use crate::{Answer, Netlist, Place, Reading};
+use crate::lines::FIRST_LINE;
+use crate::{Netlist, Refusal};
 use rules::{edge_fits, head_fits, node_fits};
 
-// Rule 3: the first node that breaks it, by the number of its line.
-fn node_fault(net: Netlist) -> Answer
-    requires { FitTo net 0 0 }
-    ensures { Tested net net.nodes 0 result }
+// Rules 2 to 7 in turn: what reading the record's text says. An edge's line stands behind those of the nodes. The kinds are a copy, as no row of a record can be taken while one of its columns is lent.
+pub fn verdict(net: Netlist) -> Result<(), Refusal>
+    ensures { Reads (text_of net) (says_of result) (kept (says_of result) (cut net net.nodes net.edges)) }
 {
-    let nodes = net.nodes as usize;
-    let mut v = 0;
-    while v < nodes {
-        if !node_fits(net.kind[v], net.delay[v]) {
-            return Answer::Refused(3, Place::Line((FIRST_LINE + v) as u16));
-        }
-        v += 1;
+    if !head_fits(net.period, net.derate, net.nodes, net.edges) {
+        return Err(Refusal::Head);
     }
-    Answer::Done(0)
-}
-
-// Rule 4: the first edge that breaks it; its line stands behind those of the nodes. The kinds are a copy, as no row of a record can be taken while one of its columns is lent.
-fn edge_fault(net: Netlist) -> Answer
-    requires { FitTo net net.nodes 0 }
-    ensures { Tested net net.nodes net.edges result }
-{
-    let nodes = net.nodes;
-    let edges = net.edges as usize;
+    let nodes = net.nodes as usize;
+    if let Some(v) = lowest(nodes, |v| node_fits(net.kind[v], net.delay[v])) {
+        return Err(Refusal::NodeLine((FIRST_LINE + v) as u16));
+    }
     let kinds = net.kind;
-    let mut e = 0;
-    while e < edges {
-        if !edge_fits(
+    if let Some(e) = lowest(net.edges as usize, |e| {
+        edge_fits(
             &kinds,
-            nodes,
+            net.nodes,
             net.from[e],
             net.to[e],
             net.count[e],
             net.start[e],
-        ) {
-            return Answer::Refused(4, Place::Line((FIRST_LINE + (nodes as usize) + e) as u16));
-        }
-        e += 1;
+        )
+    }) {
+        return Err(Refusal::EdgeLine((FIRST_LINE + nodes + e) as u16));
     }
-    Answer::Done(0)
-}
-
-// Rules 2 to 7 in turn: what reading the record's text says.
-pub fn verdict(net: Netlist) -> Answer
-    ensures { Reads (text_of net) (says result) (kept (says result) (cut net net.nodes net.edges)) }
-{
-    if !head_fits(net.period, net.derate, net.nodes, net.edges) {
-        return Answer::Refused(2, Place::Line(1));
-    }
-    let a = node_fault(net);
-    let Answer::Done(_) = a else {
-        return a;
-    };
-    let b = edge_fault(net);
-    let Answer::Done(_) = b else {
-        return b;
-    };
     judge(net)
 }
 
-// The head and the nodes of a record, and 0 in all other rows.
-fn with_nodes(net: Netlist) -> Netlist
-    requires { net.nodes ≤ 512 }
-    ensures { result ≡ cut net net.nodes 0 }
+// The first n rows of a column, and `empty` in the others.
+fn front<T: Copy, const N: usize>(column: [T; N], n: usize, empty: T) -> [T; N]
+    requires { n ≤ N }
+    ensures { result ≡ take n column ++ drop n (replicate N empty) }
 {
-    let nodes = net.nodes as usize;
-    let mut clean = with_head(net.period, net.derate, net.nodes, net.edges);
-    let mut v = 0;
-    while v < nodes {
-        clean.kind[v] = net.kind[v];
-        clean.delay[v] = net.delay[v];
-        v += 1;
-    }
-    clean
+    let mut rows = [empty; N];
+    rows[..n].copy_from_slice(&column[..n]);
+    rows
 }
 
 // The head, the nodes and the edges of a record, and 0 in all other rows.
-fn with_edges(net: Netlist) -> Netlist
+fn cleaned(net: Netlist) -> Netlist
     requires { (net.nodes ≤ 512) × (net.edges ≤ 1024) }
     ensures { result ≡ cut net net.nodes net.edges }
 {
+    let nodes = net.nodes as usize;
     let edges = net.edges as usize;
-    let mut clean = with_nodes(net);
-    let mut e = 0;
-    while e < edges {
-        clean.from[e] = net.from[e];
-        clean.to[e] = net.to[e];
-        clean.count[e] = net.count[e];
-        clean.start[e] = net.start[e];
-        e += 1;
+    Netlist {
+        period: net.period,
+        derate: net.derate,
+        nodes: net.nodes,
+        edges: net.edges,
+        kind: front(net.kind, nodes, 0),
+        delay: front(net.delay, nodes, 0),
+        from: front(net.from, edges, 0),
+        to: front(net.to, edges, 0),
+        count: front(net.count, edges, 0),
+        start: front(net.start, edges, 0),
     }
-    clean
 }
 
-// A record checked: the netlist that its lines give back, or a refusal (2 to 7) and an empty record.
-pub fn check(net: Netlist) -> Reading
-    ensures { Reads (text_of net) (says result.answer) result.net }
+// A record checked: the netlist that its lines give back, or a refusal (2 to 7).
+pub fn check(net: Netlist) -> Result<Netlist, Refusal>
+    ensures { Reads (text_of net) (says_of result) (net_of result) }
 {
-    let a = verdict(net);
-    let Answer::Done(_) = a else {
-        return Reading {
-            answer: a,
-            net: with_head(0, 0, 0, 0),
-        };
-    };
-    Reading {
-        answer: a,
-        net: with_edges(net),
-    }
+    verdict(net)?;
+    Ok(cleaned(net))
 }

@@ -1,11 +1,14 @@
-// Netlists: the record, answers, reading and writing. The promises are in specs/: Read, Write, Walk, Theorems.
+// Netlists: the record, refusals, reading and writing. The promises are in specs/: Read, Write, Walk, Theorems.
 #![tactic(auto)]
 
 use graph::{EDGES, Layer, NODES};
 
 mod checking;
+mod filled;
+mod finding;
 mod judging;
 mod lines;
+mod refusing;
 mod rewriting;
 mod walking;
 mod writing;
@@ -33,7 +36,7 @@ pub struct Netlist {
 }
 
 // "A refusal names its place: a line, a node, an edge or the whole."
-#[derive(Clone, Copy)]
+#[derive(Clone, Copy, Debug, PartialEq, Eq)]
 pub enum Place {
     Whole,
     Line(u16),
@@ -41,22 +44,40 @@ pub enum Place {
     Edge(u16),
 }
 
-// A call's number, or a refusal's number and place. specs/Answer has the paper's number and values for each case.
-#[derive(Clone, Copy)]
-pub enum Answer {
-    Done(usize),
-    Refused(u8, Place),
+// The paper's refusals, 1 to 13 in its order, each with its place. specs/Answer has the paper's number and values for each case.
+#[derive(Clone, Copy, Debug, PartialEq, Eq)]
+pub enum Refusal {
+    // 1, at a line: it is no line, or one too many.
+    Line(u16),
+    // 2, at line 1: a number of the head is out of range.
+    Head,
+    // 3, at a line: a node's gate kind or delay.
+    NodeLine(u16),
+    // 4, at a line: an edge's ends, count or start values.
+    EdgeLine(u16),
+    // 5, at a node: a wrong number of in-edges.
+    FanIn(u16),
+    // 6: a loop without a register.
+    Loop,
+    // 7, at a node: no input reaches it, or it reaches no output.
+    Reach(u16),
+    // 8: no legal retiming meets the period.
+    Period,
+    // 9, at an edge: a new count above 32.
+    Count(u16),
+    // 10: more than 24 chosen values.
+    Choices,
+    // 11: no choice carries the start.
+    Start,
+    // 12: a lent buffer is shorter than what is to be written.
+    Room,
+    // 13: the vectors are not what the netlist takes.
+    Vectors,
 }
 
-#[derive(Clone, Copy)]
-pub struct Reading {
-    pub answer: Answer,
-    pub net: Netlist,
-}
-
-// A walk's number, and which nodes are marked. The promise is in specs/Walk.
+// A walk of the lines of a text: how many nodes there are, and which of them are marked. The promise is in specs/Walk.
 #[derive(Clone, Copy)]
 pub struct Walked {
-    pub answer: Answer,
+    pub nodes: usize,
     pub layer: Layer,
 }

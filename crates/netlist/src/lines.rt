@@ -1,28 +1,20 @@
 // Reading: the lines in turn, each at a cursor, filling the record row by row; then rules 5, 6 and 7.
 // `read` asks for nothing. The others are private to the crate: they are handed a table of digits and a record within the limits.
-ghost use Rattle.std.specs.Prelude.{◌≡◌, ◌+◌, ◌*◌, ◌≤◌, ◌<◌, get_or, drop};
-ghost use Rattle.frame.specs.inner.Decoded.{Digits};
-ghost use Rattle.netlist.specs.Answer.{says};
+ghost use Rattle.std.specs.Prelude.{◌≡◌, drop};
+ghost use Rattle.netlist.specs.Answer.{says_of};
 ghost use Rattle.netlist.specs.inner.Stages.{Goes, Lined};
-ghost use Rattle.netlist.specs.Net.{empty_net, with_head};
+ghost use Rattle.netlist.specs.Net.{with_head, net_of};
 ghost use Rattle.netlist.specs.Read.{line_of_node, line_of_edge, nothing_more, edges_from, nodes_from, lines_of, Reads};
 
+use crate::filled::Filled;
 use crate::judging::judge;
-use crate::{Answer, Netlist, Place, Reading};
+use crate::{Netlist, Refusal};
+use frame::DigitTable;
 use graph::{EDGES, NODES};
 use rules::{edge_fits, head_fits, node_fits};
 
 // The number of the line behind the head (specs/Read, `first_line`).
 pub const FIRST_LINE: usize = 2;
-
-// What lines have filled: the record, the cursor past them and the number of the next line; or a refusal, and an empty record.
-#[derive(Clone, Copy)]
-pub struct Filled {
-    pub answer: Answer,
-    pub at: usize,
-    pub line: usize,
-    pub net: Netlist,
-}
 
 // A record with this head and no rows.
 pub fn with_head(period: u16, derate: u8, nodes: u16, edges: u16) -> Netlist
@@ -42,209 +34,90 @@ pub fn with_head(period: u16, derate: u8, nodes: u16, edges: u16) -> Netlist
     }
 }
 
-// A refusal at a line.
-fn fault(q: u8, line: usize) -> Filled
-    requires { line < 65536 }
-    ensures { (result.answer ≡ Answer.Refused q (Place.Line line)) × (result.net ≡ empty_net) × (result.line ≡ 0) }
-{
-    Filled {
-        answer: Answer::Refused(q, Place::Line(line as u16)),
-        at: 0,
-        line: 0,
-        net: with_head(0, 0, 0, 0),
-    }
-}
-
-// The number of two bytes, high byte first.
-fn pair(high: u8, low: u8) -> u16
-    ensures { result ≡ high * 256 + low }
-{
-    (high as u16) * 256 + (low as u16)
-}
-
-// The number of four bytes, as two pairs.
-fn quad(high: u16, low: u16) -> u32
-    ensures { result ≡ high * 65536 + low }
-{
-    (high as u32) * 65536 + (low as u32)
-}
-
 // The head line.
-fn read_head(table: &[u8], text: &[u8]) -> Filled
-    requires { Digits table.now }
-    ensures goes { Goes result.answer (lines_of text.now) (nodes_from result.net.nodes 0 result.line (drop result.at text.now) result.net) result.net }
-    ensures bounds { (result.net.nodes ≤ 512) × (result.net.edges ≤ 1024) × (result.line ≤ line_of_node result.net 0) }
+fn read_head(table: &DigitTable, text: &[u8]) -> Result<Filled, Refusal>
+    ensures { Goes result (lines_of text.now) (λ f. nodes_from f.net.nodes 0 (line_of_node f.net 0) (drop f.at text.now) f.net) }
 {
-    let f = frame::frame_by(table, text, 0, 1, 7);
-    if !f.ok {
-        return fault(1, 1);
-    }
-    let b = f.bytes;
-    let period = pair(b[0], b[1]);
+    let b: [u8; 7] = table.line(text, 0, 1).ok_or(Refusal::Line(1))?;
+    let period = u16::from_be_bytes([b[0], b[1]]);
     let derate = b[2];
-    let nodes = pair(b[3], b[4]);
-    let edges = pair(b[5], b[6]);
+    let nodes = u16::from_be_bytes([b[3], b[4]]);
+    let edges = u16::from_be_bytes([b[5], b[6]]);
     if !head_fits(period, derate, nodes, edges) {
-        return fault(2, 1);
+        return Err(Refusal::Head);
     }
-    Filled {
-        answer: Answer::Done(0),
+    Ok(Filled {
         at: 17,
-        line: FIRST_LINE,
         net: with_head(period, derate, nodes, edges),
-    }
+    })
 }
 
-// The node lines from the cursor `at0`, which is at line `line0`.
-fn read_nodes(table: &[u8], text: &[u8], at0: usize, line0: usize, net0: Netlist) -> Filled
-    requires digits { Digits table.now }
-    requires bounds { (net0.nodes ≤ 512) × (net0.edges ≤ 1024) × (line0 ≤ line_of_node net0 0) }
-    ensures goes { Goes result.answer (nodes_from net0.nodes 0 line0 (drop at0 text.now) net0) (edges_from result.net.edges 0 result.line (drop result.at text.now) result.net) result.net }
-    ensures bounds_left { (result.net.nodes ≤ 512) × (result.net.edges ≤ 1024) × (result.line ≤ line_of_edge result.net 0) }
+// The node lines behind what is filled.
+// Kept: one function with `read_edges` would take the size of a line, the test and the store as closures over the record that it fills, more than these two loops are.
+fn read_nodes(table: &DigitTable, text: &[u8], headed: Filled) -> Result<Filled, Refusal>
+    ensures { Goes result (nodes_from headed.net.nodes 0 (line_of_node headed.net 0) (drop headed.at text.now) headed.net) (λ f. edges_from f.net.edges 0 (line_of_edge f.net 0) (drop f.at text.now) f.net) }
 {
-    let mut net = net0;
-    let n = net.nodes as usize;
-    let mut at = at0;
-    let mut line = line0;
-    let mut i = 0;
-    while i < n {
-        let f = frame::frame_by(table, text, at, 2, 2);
-        if !f.ok {
-            return fault(1, line);
+    let mut net = headed.net;
+    let mut at = headed.at;
+    for v in 0..net.nodes as usize {
+        let line = (FIRST_LINE + v) as u16;
+        let [kind, delay] = table.line::<2>(text, at, 2).ok_or(Refusal::Line(line))?;
+        if !node_fits(kind, delay) {
+            return Err(Refusal::NodeLine(line));
         }
-        let b = f.bytes;
-        if !node_fits(b[0], b[1]) {
-            return fault(3, line);
-        }
-        net.kind[i] = b[0];
-        net.delay[i] = b[1];
+        net.kind[v] = kind;
+        net.delay[v] = delay;
         at += 7;
-        line += 1;
-        i += 1;
     }
-    Filled {
-        answer: Answer::Done(0),
-        at,
-        line,
-        net,
-    }
+    Ok(Filled { at, net })
 }
 
-// The numbers in an edge line's bytes.
-#[derive(Clone, Copy)]
-struct EdgeRow {
-    from: u16,
-    to: u16,
-    count: u8,
-    start: u32,
-}
-
-fn edge_row(b: [u8; 16]) -> EdgeRow
-    ensures from_value { (result.from ≡ get_or b 0 0 * 256 + get_or b 1 0) × (result.to ≡ get_or b 2 0 * 256 + get_or b 3 0) × (result.count ≡ get_or b 4 0) }
-    ensures start_value { result.start ≡ (get_or b 5 0 * 256 + get_or b 6 0) * 65536 + (get_or b 7 0 * 256 + get_or b 8 0) }
+// The edge lines behind what is filled.
+fn read_edges(table: &DigitTable, text: &[u8], noded: Filled) -> Result<Filled, Refusal>
+    ensures { Goes result (edges_from noded.net.edges 0 (line_of_edge noded.net 0) (drop noded.at text.now) noded.net) (λ f. nothing_more (drop f.at text.now) (line_of_edge f.net f.net.edges) f.net) }
 {
-    EdgeRow {
-        from: pair(b[0], b[1]),
-        to: pair(b[2], b[3]),
-        count: b[4],
-        start: quad(pair(b[5], b[6]), pair(b[7], b[8])),
-    }
-}
-
-// The edge lines from the cursor `at0`, which is at line `line0`.
-fn read_edges(table: &[u8], text: &[u8], at0: usize, line0: usize, net0: Netlist) -> Filled
-    requires digits { Digits table.now }
-    requires bounds { (net0.nodes ≤ 512) × (net0.edges ≤ 1024) × (line0 ≤ line_of_edge net0 0) }
-    ensures goes { Goes result.answer (edges_from net0.edges 0 line0 (drop at0 text.now) net0) (nothing_more (drop result.at text.now) result.line result.net) result.net }
-    ensures bounds_left { (result.net.nodes ≤ 512) × (result.net.edges ≤ 1024) × (result.line ≤ line_of_edge result.net result.net.edges) }
-{
-    let mut net = net0;
+    let mut net = noded.net;
     let nodes = net.nodes;
-    let edges = net.edges as usize;
-    let mut at = at0;
-    let mut line = line0;
-    let mut e = 0;
-    while e < edges {
-        let f = frame::frame_by(table, text, at, 3, 9);
-        if !f.ok {
-            return fault(1, line);
+    let mut at = noded.at;
+    for e in 0..net.edges as usize {
+        let line = (FIRST_LINE + (nodes as usize) + e) as u16;
+        let b: [u8; 9] = table.line(text, at, 3).ok_or(Refusal::Line(line))?;
+        let from = u16::from_be_bytes([b[0], b[1]]);
+        let to = u16::from_be_bytes([b[2], b[3]]);
+        let count = b[4];
+        let start = u32::from_be_bytes([b[5], b[6], b[7], b[8]]);
+        if !edge_fits(&net.kind, nodes, from, to, count, start) {
+            return Err(Refusal::EdgeLine(line));
         }
-        let b = f.bytes;
-        let row = edge_row(b);
-        if !edge_fits(&net.kind, nodes, row.from, row.to, row.count, row.start) {
-            return fault(4, line);
-        }
-        net.from[e] = row.from;
-        net.to[e] = row.to;
-        net.count[e] = row.count;
-        net.start[e] = row.start;
+        net.from[e] = from;
+        net.to[e] = to;
+        net.count[e] = count;
+        net.start[e] = start;
         at += 21;
-        line += 1;
-        e += 1;
     }
-    Filled {
-        answer: Answer::Done(0),
-        at,
-        line,
-        net,
-    }
+    Ok(Filled { at, net })
 }
 
 // Rules 1 to 4: all lines, and nothing after them.
-pub fn read_lines(table: &[u8], text: &[u8]) -> Reading
-    requires { Digits table.now }
-    ensures { Lined text.now result.answer result.net }
+pub fn read_lines(table: &DigitTable, text: &[u8]) -> Result<Netlist, Refusal>
+    ensures { Lined text.now result }
 {
-    let head = read_head(table, text);
-    let a = head.answer;
-    let headed = head.net;
-    let Answer::Done(_) = a else {
-        return Reading {
-            answer: a,
-            net: headed,
-        };
-    };
-    let nodes = read_nodes(table, text, head.at, head.line, headed);
-    let b = nodes.answer;
-    let noded = nodes.net;
-    let Answer::Done(_) = b else {
-        return Reading {
-            answer: b,
-            net: noded,
-        };
-    };
-    let edges = read_edges(table, text, nodes.at, nodes.line, noded);
-    let c = edges.answer;
-    let net = edges.net;
-    let Answer::Done(_) = c else {
-        return Reading { answer: c, net };
-    };
-    if edges.at < text.len() {
-        return Reading {
-            answer: Answer::Refused(1, Place::Line(edges.line as u16)),
-            net: with_head(0, 0, 0, 0),
-        };
+    let headed = read_head(table, text)?;
+    let noded = read_nodes(table, text, headed)?;
+    let edged = read_edges(table, text, noded)?;
+    let net = edged.net;
+    if edged.at < text.len() {
+        let line = FIRST_LINE + (net.nodes as usize) + (net.edges as usize);
+        return Err(Refusal::Line(line as u16));
     }
-    Reading { answer: c, net }
+    Ok(net)
 }
 
-// A text read: the netlist, or a refusal (1 to 7) and an empty record.
-pub fn read(text: &[u8]) -> Reading
-    ensures { Reads text.now (says result.answer) result.net }
+// A text read: the netlist, or a refusal (1 to 7).
+pub fn read(text: &[u8]) -> Result<Netlist, Refusal>
+    ensures { Reads text.now (says_of result) (net_of result) }
 {
-    let table = frame::digit_table();
-    let lines = read_lines(&table, text);
-    let a = lines.answer;
-    let Answer::Done(_) = a else {
-        return lines;
-    };
-    let net = lines.net;
-    let b = judge(net);
-    let Answer::Done(_) = b else {
-        return Reading {
-            answer: b,
-            net: with_head(0, 0, 0, 0),
-        };
-    };
-    Reading { answer: b, net }
+    let net = read_lines(&DigitTable::new(), text)?;
+    judge(net)?;
+    Ok(net)
 }

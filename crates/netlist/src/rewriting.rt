@@ -2,19 +2,14 @@
 ghost use Rattle.netlist.specs.Answer.{says};
 ghost use Rattle.netlist.specs.Write.{Rewrites};
 
-use crate::Answer;
+use crate::Refusal;
 use crate::lines::read;
 use crate::writing::write;
 
-// A text read and written again.
-pub fn rewrite(text: &[u8], out: &mut [u8]) -> Answer
+// A text read and written again: how many bytes, or a refusal (1 to 7, 12), which leaves `out`.
+pub fn rewrite(text: &[u8], out: &mut [u8]) -> Result<usize, Refusal>
     ensures { Rewrites text.now out.old (says result) out.new }
 {
-    let reading = read(text);
-    let a = reading.answer;
-    let Answer::Done(_) = a else {
-        return a;
-    };
-    let net = reading.net;
+    let net = read(text)?;
     write(net, out)
 }

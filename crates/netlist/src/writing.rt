@@ -7,67 +7,40 @@ ghost use Rattle.netlist.specs.Net.{plain};
 ghost use Rattle.netlist.specs.Write.{node_line, edge_line, joined, text_of, text_in, Writes};
 
 use crate::checking::verdict;
-use crate::{Answer, Netlist, Place};
+use crate::{Netlist, Refusal};
 use frame::put_line;
 use graph::{EDGES, NODES};
 
 // The bytes of the head line.
-fn head_bytes(period: u16, derate: u8, nodes: u16, edges: u16) -> [u8; 16]
-    ensures { take 8 result ≡ (1 ∷ []) ++ bytes_of 2 period ++ bytes_of 1 derate ++ bytes_of 2 nodes ++ bytes_of 2 edges }
+fn head_bytes(period: u16, derate: u8, nodes: u16, edges: u16) -> [u8; 8]
+    ensures { result ≡ (1 ∷ []) ++ bytes_of 2 period ++ bytes_of 1 derate ++ bytes_of 2 nodes ++ bytes_of 2 edges }
 {
-    let mut b = [0u8; 16];
-    b[0] = 1;
-    b[1] = (period / 256 % 256) as u8;
-    b[2] = (period % 256) as u8;
-    b[3] = derate;
-    b[4] = (nodes / 256 % 256) as u8;
-    b[5] = (nodes % 256) as u8;
-    b[6] = (edges / 256 % 256) as u8;
-    b[7] = (edges % 256) as u8;
-    b
-}
-
-// The bytes of a node's line.
-fn node_bytes(kind: u8, delay: u8) -> [u8; 16]
-    ensures { take 3 result ≡ 2 ∷ kind ∷ delay ∷ [] }
-{
-    let mut b = [0u8; 16];
-    b[0] = 2;
-    b[1] = kind;
-    b[2] = delay;
-    b
+    let p = period.to_be_bytes();
+    let n = nodes.to_be_bytes();
+    let e = edges.to_be_bytes();
+    [1, p[0], p[1], derate, n[0], n[1], e[0], e[1]]
 }
 
 // The bytes of an edge's line.
-fn edge_bytes(from: u16, to: u16, count: u8, start: u32) -> [u8; 16]
-    ensures { take 10 result ≡ (3 ∷ []) ++ bytes_of 2 from ++ bytes_of 2 to ++ bytes_of 1 count ++ bytes_of 4 start }
+fn edge_bytes(from: u16, to: u16, count: u8, start: u32) -> [u8; 10]
+    ensures { result ≡ (3 ∷ []) ++ bytes_of 2 from ++ bytes_of 2 to ++ bytes_of 1 count ++ bytes_of 4 start }
 {
-    let mut b = [0u8; 16];
-    b[0] = 3;
-    b[1] = (from / 256 % 256) as u8;
-    b[2] = (from % 256) as u8;
-    b[3] = (to / 256 % 256) as u8;
-    b[4] = (to % 256) as u8;
-    b[5] = count;
-    b[6] = (start / 256 / 256 / 256 % 256) as u8;
-    b[7] = (start / 256 / 256 % 256) as u8;
-    b[8] = (start / 256 % 256) as u8;
-    b[9] = (start % 256) as u8;
-    b
+    let u = from.to_be_bytes();
+    let v = to.to_be_bytes();
+    let s = start.to_be_bytes();
+    [3, u[0], u[1], v[0], v[1], count, s[0], s[1], s[2], s[3]]
 }
 
 // The node lines from the cursor `at0`; the cursor past them.
+// Kept: tried as one function with `put_edges`, with a closure of type `Fn(usize) -> [u8; N]` for the bytes, but a bound that names a const parameter gets no proof.
 fn put_nodes(net: Netlist, out: &mut [u8], at0: usize) -> usize
     requires { (net.nodes ≤ 512) × (at0 + length (joined (node_line net) net.nodes) ≤ length out.old) }
     ensures { (out.new ≡ sets out.old at0 (joined (node_line net) net.nodes)) × (result ≡ at0 + length (joined (node_line net) net.nodes)) }
 {
-    let n = net.nodes as usize;
     let mut at = at0;
-    let mut i = 0;
-    while i < n {
-        put_line(out, at, node_bytes(net.kind[i], net.delay[i]), 3);
+    for i in 0..net.nodes as usize {
+        put_line(out, at, &[2, net.kind[i], net.delay[i]]);
         at += 7;
-        i += 1;
     }
     at
 }
@@ -77,14 +50,11 @@ fn put_edges(net: Netlist, out: &mut [u8], at0: usize) -> usize
     requires { (net.edges ≤ 1024) × (at0 + length (joined (edge_line net) net.edges) ≤ length out.old) }
     ensures { (out.new ≡ sets out.old at0 (joined (edge_line net) net.edges)) × (result ≡ at0 + length (joined (edge_line net) net.edges)) }
 {
-    let m = net.edges as usize;
     let mut at = at0;
-    let mut e = 0;
-    while e < m {
+    for e in 0..net.edges as usize {
         let b = edge_bytes(net.from[e], net.to[e], net.count[e], net.start[e]);
-        put_line(out, at, b, 10);
+        put_line(out, at, &b);
         at += 21;
-        e += 1;
     }
     at
 }
@@ -122,23 +92,20 @@ pub fn put_text(net: Netlist, out: &mut [u8]) -> usize
         return 0;
     }
     let b = head_bytes(net.period, net.derate, net.nodes, net.edges);
-    put_line(out, 0, b, 8);
+    put_line(out, 0, &b);
     let at = put_nodes(net, out, 17);
     put_edges(net, out, at)
 }
 
 // A netlist written to the front of `out`: how many bytes, or a refusal (2 to 7, 12), which leaves `out`.
-pub fn write(net: Netlist, out: &mut [u8]) -> Answer
+pub fn write(net: Netlist, out: &mut [u8]) -> Result<usize, Refusal>
     ensures { Writes net out.old (says result) out.new }
 {
-    let a = verdict(net);
-    let Answer::Done(_) = a else {
-        return a;
-    };
+    verdict(net)?;
     let n = text_len(net);
     if out.len() < n {
-        return Answer::Refused(12, Place::Whole);
+        return Err(Refusal::Room);
     }
     put_text(net, out);
-    Answer::Done(n)
+    Ok(n)
 }

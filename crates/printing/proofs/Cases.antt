@@ -2,7 +2,8 @@
 --   size, size_fits     how many bytes are written of a netlist; no more than its text has
 --   fitted              the length of the buffer and what it held decide nothing
 --   came                where a number is said, the text reads, and the new text stands at the front
---   lag_rows, lag_words so the lines of the lags have room, and two bytes hold each lag
+--   reads_too           so the text reads
+--   lag_rows, lag_words the lines of the lags have room, and two bytes hold each lag
 --   lists_done          the new text and these lines
 --   lists_refused       the line of a refusal
 --   front_is, shows     what is printed of a text is what is printed of its first 32,768 bytes
@@ -11,33 +12,29 @@ use native.Mathlib.Omega.{arith}
 use native.Mathlib.Decide.{dec_le}
 use mathlib.Core.Path.{◌≡◌, refl, sym, ap, ap₂, subst, subst₂, ◌∙◌}
 use mathlib.Core.Logic.{inl, inr, ⊎_elim}
-use mathlib.Core.List.{List, ◌++◌}
+use mathlib.Core.List.{List, [], ◌∷◌, ◌++◌}
 use borrow.Author.Tests.{le-leb}
 use lib.IntN.{ℤ, pos}
 use lib.ListN.{length, take, drop, get_or, replicate, length-append, length-drop}
 use lib.Seq.{sets, sets-eq, take_all, take_at, drop-append-add, drop-drop, length-take-le}
 use Rattle.theory.specs.Lag.{up, down}
-use Rattle.frame.specs.Frame.{placed}
+use Rattle.std.proofs.lemmas.List.{get_or-take}
+use Rattle.frame.specs.Frame.{bytes_of, line_of, placed}
 use Rattle.frame.proofs.Buffers.{placed_room}
 use Rattle.netlist.specs.declared.Netlist.{Netlist}
-use Rattle.netlist.specs.declared.Place.{Place}
-use Rattle.netlist.specs.declared.Place.TheVariants.{Whole, Line, Node, Edge}
-use Rattle.netlist.specs.declared.Answer.{Answer}
-use Rattle.netlist.specs.declared.Answer.TheVariants.{Done, Refused}
-use Rattle.netlist.specs.Answer.{Said, value, refused, says, whole, holds}
+use Rattle.netlist.specs.Answer.{Said, value, refused, whole, holds}
 use Rattle.netlist.specs.Net.{zeros, plain}
 use Rattle.netlist.specs.Order.{Given}
 use Rattle.netlist.specs.Read.{Reads}
 use Rattle.netlist.specs.Write.{joined, text_of}
 use Rattle.netlist.proofs.Fits.{clash}
 use Rattle.netlist.proofs.Order.{else_map}
-use Rattle.netlist.proofs.Rows.{length_zeros}
+use Rattle.netlist.proofs.Rows.{length_zeros, joined_same}
 use Rattle.netlist.proofs.Run.{fit_rows}
 use Rattle.netlist.proofs.Written.{length_joined}
 use Rattle.netlist.proofs.theorems.One.{one_reading}
 use Rattle.netlist.proofs.theorems.Some.{some_reading}
 use Rattle.netlist.proofs.theorems.Sound.{reads_text}
-use Rattle.simulate.proofs.Answered.{says_refused}
 use Rattle.lags.proofs.Laws.{read_sure}
 use Rattle.moves.specs.Moved.{moved_net}
 use Rattle.retime.specs.Retime.{Short, Retimes}
@@ -48,7 +45,7 @@ use Rattle.retime.proofs.theorems.Refusals.{unread_fact, nothing_touched}
 use Rattle.printing.specs.Shown.{refusal_line, line_in}
 use Rattle.printing.proofs.Shown.{counted, refusal_length}
 use Rattle.printing.specs.declared.Printed.{Printed}
-use Rattle.printing.specs.Listed.{lag_line, listed, Prints, PrintsWhole}
+use Rattle.printing.specs.Listed.{twos, lag_line, Prints, PrintsWhole}
 use Rattle.printing.specs.inner.Lists.{Lists}
 use Rattle.printing.proofs.Lines.{lag_length}
 use Rattle.printing.proofs.More.{more_decides_nothing}
@@ -123,98 +120,122 @@ came {t} {old} o e =
     let new = text_of (moved_net o.net o.lag o.choice) in
     record { net = o.net; reads = back_reads o e; new = new; long = written_length o.net o.lag o.choice; front = o.buffer ∙ ap (λ a. holds a new old) e }
 
-listed_refused : (q : ℕ) (p : Place) (new : List ℕ) (lags : List ℤ) (nodes : ℕ) → listed (says (Refused q p)) new lags nodes ≡ refusal_line (says (Refused q p))
-listed_refused q Whole new lags nodes = refl
-listed_refused q (Line l) new lags nodes = refl
-listed_refused q (Node v) new lags nodes = refl
-listed_refused q (Edge e) new lags nodes = refl
+module _ (t old mid : List ℕ) (lags : List ℤ) (room : length t + 5632 ≤ length old) where
+  module _ {k : ℕ} (w : Retimes t old (replicate 512 (pos 0)) (value k) mid lags) where
+    fit : Fitted t (replicate 512 (pos 0)) (value k) mid lags
+    fit = fitted (omega arith) w
 
-module _ (t old mid : List ℕ) (lags : List ℤ) (a : Answer) (w : Retimes t old (replicate 512 (pos 0)) (says a) mid lags) (room : length t + 5632 ≤ length old) where
-  fit : Fitted t (replicate 512 (pos 0)) (says a) mid lags
-  fit = fitted (omega arith) w
-
-  module _ {k : ℕ} (e : a ≡ Done k) (b : Answer) (net : Netlist) (r : Reads t (says b) net) where
     here : Came t old mid
-    here = came w (ap says e)
+    here = came w refl
 
-    same : (says b ≡ value 0) × (net ≡ here.net)
-    same = one_reading t (says b) (value 0) net here.net r here.reads
+    -- So the text reads.
+    pub reads_too : {q k p : ℕ} {net : Netlist} → ¬ Reads t (refused q k p) net
+    reads_too {q} {k} {p} {net} r = let e = (one_reading t (refused q k p) (value 0) net here.net r here.reads).0 in clash (cc)
 
-    reads : Reads t (value 0) net
-    reads = subst (Reads t (value 0)) (sym same.1) here.reads
+    module _ (net : Netlist) (reads : Reads t (value 0) net) where
+      same : net ≡ here.net
+      same = (one_reading t (value 0) (value 0) net here.net reads here.reads).1
 
-    few : net.nodes ≤ 512
-    few = (fit_rows net (read_sure t net reads).fit).0
+      few : net.nodes ≤ 512
+      few = (fit_rows net (read_sure t net reads).fit).0
 
-    mid_length : length mid ≡ length old
-    mid_length =
-        ap length here.front ∙ length-append here.new (drop (length here.new) old) ∙ omega (arith, here.long, size_fits here.reads, length-drop (length here.new) old)
+      mid_length : length mid ≡ length old
+      mid_length =
+          ap length here.front ∙ length-append here.new (drop (length here.new) old) ∙ omega (arith, here.long, size_fits here.reads, length-drop (length here.new) old)
 
-    pub lag_rows : (net.nodes ≤ 512) × (length (text_of (plain net)) + length (joined (lag_line lags) net.nodes) ≤ length mid)
-    lag_rows = (few, omega (arith, few, mid_length, size_fits reads, length_joined (lag_line lags) 11 (lag_length lags) net.nodes))
+      front_lags : List ℤ
+      front_lags = take net.nodes lags
 
-    pub lag_words : (v : ℕ) → v < net.nodes → (up (get_or lags v (pos 0)) < 32768) × (down (get_or lags v (pos 0)) ≤ 32768)
-    lag_words v h = let f = lags_fit t old (replicate 512 (pos 0)) (says a) mid lags net reads w (k, ap says e) v h in (omega (arith, f.0), omega (arith, f.1))
+      lines : List ℕ
+      lines = joined (lag_line front_lags) (length front_lags)
 
-    lines : List ℕ
-    lines = joined (lag_line lags) net.nodes
+      module _ (long_lags : length lags ≡ 512) where
+        lags_length : length front_lags ≡ net.nodes
+        unfolding front_lags
+        lags_length = length-take-le net.nodes lags (omega (arith, few, long_lags))
 
-    lines_length : length lines ≡ 11 * net.nodes
-    unfolding lines
-    lines_length = length_joined (lag_line lags) 11 (lag_length lags) net.nodes
+        same_lag : (v : ℕ) → v < net.nodes → get_or front_lags v (pos 0) ≡ get_or lags v (pos 0)
+        unfolding front_lags
+        same_lag v h = get_or-take net.nodes lags v (pos 0) h
 
-    -- What stands past the new text is what stood there.
-    long : length here.new ≡ size net
-    long = here.long ∙ ap size (sym same.1)
+        -- The lines of the table's front are those of the nodes.
+        lines_are : lines ≡ joined (lag_line lags) net.nodes
+        unfolding lines
+        lines_are =
+            ap (joined (lag_line front_lags)) lags_length
+            ∙ joined_same (lag_line front_lags) (lag_line lags) net.nodes (λ v h. ap (λ z. line_of ((4 ∷ []) ++ bytes_of 2 v ++ bytes_of 2 (twos z))) (same_lag v h))
 
-    rest : (n : ℕ) → drop (size net + n) mid ≡ drop (size net + n) old
-    rest n =
-        ap₂ (λ l xs. drop (l + n) xs) (sym long) here.front ∙ drop-append-add here.new (drop (length here.new) old) n
-        ∙ drop-drop n (length here.new) old ∙ ap (λ l. drop (l + n) old) long
+        lines_length : length lines ≡ 11 * net.nodes
+        lines_length = ap length lines_are ∙ length_joined (lag_line lags) 11 (lag_length lags) net.nodes
 
-    pub lists_done : (new : List ℕ) (at n : ℕ) → at ≡ length (text_of (plain net)) → new ≡ sets mid at (joined (lag_line lags) net.nodes)
-        → n ≡ at + length (joined (lag_line lags) net.nodes) → Lists t old n new
-    unfolding lines
-    lists_done new at n z p q =
-        let front = take (size net) mid in
-        let front_length : length front ≡ size net = length-take-le (size net) mid (omega (arith, mid_length, size_fits reads)) in
-        let long : length (front ++ lines) ≡ size net + length lines = length-append front lines ∙ ap (λ i. i + length lines) front_length in
-        record {
-          printed = front ++ lines;
-          prints = record {
-            said = says a;
-            new = fit.new;
-            lags = lags;
-            retimes = fit.retimes;
-            read = says b;
-            net = net;
-            reads = r;
-            prints = ap (λ x. x ++ lines) (fit.same net reads k (ap says e)) ∙ ap (λ s. listed s (take (size net) fit.new) lags net.nodes) (sym (ap says e));
-          };
-          count = q ∙ ap (λ i. i + length lines) z ∙ sym long;
-          bytes = p ∙ ap (λ i. sets mid i lines) z ∙ sets-eq lines mid (size net) (omega (arith, lines_length, few, mid_length, size_fits reads)) ∙ ap (λ xs. front ++ lines ++ xs) (rest (length lines) ∙ ap (λ i. drop i old) (sym long));
-          room = omega (arith, long, lines_length, few, size_fits reads);
-        }
+        pub lag_rows : (net.nodes ≤ length lags) × (length (take net.nodes lags) ≤ 512)
+            × (length (text_of (plain net)) + length (joined (lag_line (take net.nodes lags)) (length (take net.nodes lags))) ≤ length mid)
+        unfolding lines front_lags
+        lag_rows = (omega (arith, few, long_lags), omega (arith, few, lags_length), omega (arith, few, mid_length, size_fits reads, lines_length))
 
-  pub lists_refused : {q : ℕ} {p : Place} → a ≡ Refused q p → (new : List ℕ) (n : ℕ) → new ≡ placed mid 0 (refusal_line (says (Refused q p))) → n ≡ line_in (refusal_line (says (Refused q p))) mid
-      → Lists t old n new
-  lists_refused {q} {p} e new n f g =
-      let line = refusal_line (says (Refused q p)) in
-      let (k, l, z) = says_refused a e in
-      let stays : mid ≡ old = (nothing_touched t old (replicate 512 (pos 0)) (says a) mid lags q k l w z).0 in
-      let long : length line ≡ 11 = refusal_length q p in
+        pub lag_words : (v : ℕ) → v < length (take net.nodes lags)
+            → (up (get_or (take net.nodes lags) v (pos 0)) < 32768) × (down (get_or (take net.nodes lags) v (pos 0)) ≤ 32768)
+        unfolding front_lags
+        lag_words v h =
+            let l : v < net.nodes = omega (arith, lags_length) in
+            let f = lags_fit t old (replicate 512 (pos 0)) (value k) mid lags net reads w (k, refl) v l in
+            let P : ℤ → Type 0 = λ z. (up z < 32768) × (down z ≤ 32768) in
+            subst P (sym (same_lag v l)) (omega (arith, f.0), omega (arith, f.1))
+
+        -- What stands past the new text is what stood there.
+        long : length here.new ≡ size net
+        long = here.long ∙ ap size (sym same)
+
+        rest : (n : ℕ) → drop (size net + n) mid ≡ drop (size net + n) old
+        rest n =
+            ap₂ (λ l xs. drop (l + n) xs) (sym long) here.front ∙ drop-append-add here.new (drop (length here.new) old) n
+            ∙ drop-drop n (length here.new) old ∙ ap (λ l. drop (l + n) old) long
+
+        pub lists_done : (new : List ℕ) (at n : ℕ) → at ≡ length (text_of (plain net))
+            → new ≡ sets mid at (joined (lag_line (take net.nodes lags)) (length (take net.nodes lags)))
+            → n ≡ at + length (joined (lag_line (take net.nodes lags)) (length (take net.nodes lags))) → Lists t old n new
+        unfolding lines front_lags
+        lists_done new at n z p q =
+            let front = take (size net) mid in
+            let front_length : length front ≡ size net = length-take-le (size net) mid (omega (arith, mid_length, size_fits reads)) in
+            let long : length (front ++ lines) ≡ size net + length lines = length-append front lines ∙ ap (λ i. i + length lines) front_length in
+            record {
+              printed = front ++ lines;
+              prints = record {
+                said = value k;
+                new = fit.new;
+                lags = lags;
+                retimes = fit.retimes;
+                read = value 0;
+                net = net;
+                reads = reads;
+                prints = ap₂ (λ x l. x ++ l) (fit.same net reads k refl) lines_are;
+              };
+              count = q ∙ ap (λ i. i + length lines) z ∙ sym long;
+              bytes = p ∙ ap (λ i. sets mid i lines) z ∙ sets-eq lines mid (size net) (omega (arith, lines_length, few, mid_length, size_fits reads))
+                  ∙ ap (λ xs. front ++ lines ++ xs) (rest (length lines) ∙ ap (λ i. drop i old) (sym long));
+              room = omega (arith, long, lines_length, few, size_fits reads);
+            }
+
+  pub lists_refused : {q p i : ℕ} (w : Retimes t old (replicate 512 (pos 0)) (refused q p i) mid lags) (new : List ℕ) (n : ℕ)
+      → new ≡ placed mid 0 (refusal_line (refused q p i)) → n ≡ line_in (refusal_line (refused q p i)) mid → Lists t old n new
+  lists_refused {q} {p} {i} w new n f g =
+      let line = refusal_line (refused q p i) in
+      let fit : Fitted t (replicate 512 (pos 0)) (refused q p i) mid lags = fitted (omega arith) w in
+      let stays : mid ≡ old = (nothing_touched t old (replicate 512 (pos 0)) (refused q p i) mid lags q p i w refl).0 in
+      let long : length line ≡ 11 = refusal_length q p i in
       let any = some_reading t in
       record {
         printed = line;
         prints = record {
-          said = says a;
+          said = refused q p i;
           new = fit.new;
           lags = lags;
           retimes = fit.retimes;
           read = any.0;
           net = any.1;
           reads = any.2;
-          prints = sym (ap (λ x. listed (says x) (take (size any.1) fit.new) lags any.1.nodes) e ∙ listed_refused q p (take (size any.1) fit.new) lags any.1.nodes);
+          prints = refl;
         };
         count = g ∙ rw (le-leb (length line) (length mid) (omega (arith, long, ap length stays)));
         bytes = f ∙ placed_room mid 0 line (omega (arith, long, ap length stays)) ∙ sets-eq line mid 0 (omega (arith, long, ap length stays))

@@ -1,12 +1,14 @@
 -- The laws of what is printed.
 -- A refusal; a text read and written again.
 pub mod Shown
--- Bits as digits; a run, by cases.
+-- The bytes of a number.
+pub mod Bytes
+-- Bits as digits; a run.
 pub mod Digits
 pub mod Runs
--- A quote, by cases.
+-- A quote.
 pub mod Quoted
--- A text's rails, by cases.
+-- A text's rails.
 pub mod Shared
 -- Lags as numbers of two bytes, and their lines.
 pub mod Lines

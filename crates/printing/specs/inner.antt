@@ -1,3 +1,2 @@
--- Inside: a place's two numbers; a text retimed and listed, into a buffer that is lent.
-pub mod Places
+-- Inside: a text retimed and listed, into a buffer that is lent.
 pub mod Lists

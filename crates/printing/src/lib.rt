@@ -1,6 +1,7 @@
 // What the programs print: of a text read and written again, of a run or of marks, of a text retimed, of a quote, of a text's rails, and of a refusal. The promises are in specs/: Shown, Printed, Listed, Quoted, Shared.
 #![tactic(auto)]
 
+mod fronts;
 mod quoting;
 mod refusals;
 mod rereading;
@@ -9,7 +10,7 @@ mod running;
 mod sharing;
 
 pub use quoting::put_quote;
-pub use refusals::put_refusal;
+pub use refusals::{put_refusal, put_refused};
 pub use rereading::reread;
 pub use retiming::listing;
 pub use running::{put_bits, put_run};
@@ -19,6 +20,7 @@ pub use sharing::put_rails;
 pub const ROOM: usize = 32768 + 11 * 512;
 
 // What is printed: the first `len` of these bytes.
+// Kept: no heap, and a buffer that the value owns is an array of fixed size.
 #[derive(Clone, Copy)]
 pub struct Printed {
     pub len: usize,

@@ -1,51 +1,49 @@
 // What is printed of a refusal.
-ghost use Rattle.std.specs.Prelude.{◌≡◌};
+ghost use Rattle.std.specs.Prelude.{◌≡◌, ◌∷◌};
 ghost use Rattle.io.specs.Counts.{IsPrefixLen};
-ghost use Rattle.frame.specs.Frame.{placed};
-ghost use Rattle.netlist.specs.Answer.{says};
-ghost use Rattle.netlist.specs.declared.Answer.TheVariants.{Refused};
+ghost use Rattle.frame.specs.Frame.{bytes_of, placed};
+ghost use Rattle.netlist.specs.Answer.{refused, kind_of, index_of, refusal};
 ghost use Rattle.printing.specs.Shown.{refusal_line, line_in};
-ghost use Rattle.printing.specs.inner.Places.{place_kind, place_number};
 
-use netlist::Place;
+use crate::fronts::put_front;
+use netlist::{Place, Refusal};
 
-// "place kind (1: 00 whole, 01 line, 02 node, 03 edge)"
-fn place_kind(p: Place) -> u8
-    ensures { result ≡ place_kind p }
+// "place kind (1: 00 whole, 01 line, 02 node, 03 edge), place (2, 0 for whole)"
+fn place_numbers(place: Place) -> (u8, u16)
+    ensures { (result.0 ≡ kind_of place) × (result.1 ≡ index_of place) }
 {
-    match p {
-        Place::Whole => 0,
-        Place::Line(_) => 1,
-        Place::Node(_) => 2,
-        Place::Edge(_) => 3,
+    match place {
+        Place::Whole => (0, 0),
+        Place::Line(line) => (1, line),
+        Place::Node(node) => (2, node),
+        Place::Edge(edge) => (3, edge),
     }
 }
 
-// "place (2, 0 for whole)"
-fn place_number(p: Place) -> u16
-    ensures { result ≡ place_number p }
+// The bytes of the line of a refusal.
+fn refusal_bytes(number: u8, place: Place) -> [u8; 5]
+    ensures { result ≡ 15 ∷ number ∷ kind_of place ∷ bytes_of 2 (index_of place) }
 {
-    match p {
-        Place::Whole => 0,
-        Place::Line(n) => n,
-        Place::Node(v) => v,
-        Place::Edge(e) => e,
-    }
+    let (kind, index) = place_numbers(place);
+    let mut bytes = [15, number, kind, 0, 0];
+    bytes[3..].copy_from_slice(&index.to_be_bytes());
+    bytes
 }
 
-// The line of a refusal at the front of `out`, where there is room for it; how many bytes that took.
-pub fn put_refusal(q: u8, p: Place, out: &mut [u8]) -> usize
-    ensures out_after { out.new ≡ placed out.old 0 (refusal_line (says (Refused q p))) }
-    ensures value { result ≡ line_in (refusal_line (says (Refused q p))) out.old }
+// The line of a refusal of any number at any place, at the front of `out`, where there is room for it; how many bytes that took.
+pub fn put_refused(number: u8, place: Place, out: &mut [u8]) -> usize
+    ensures out_after { out.new ≡ placed out.old 0 (refusal_line (refused number (kind_of place) (index_of place))) }
+    ensures value { result ≡ line_in (refusal_line (refused number (kind_of place) (index_of place))) out.old }
     ensures prefix_len { IsPrefixLen result out.new }
 {
-    let place = place_number(p);
-    let mut bytes = [0u8; 16];
-    bytes[0] = 15;
-    bytes[1] = q;
-    bytes[2] = place_kind(p);
-    bytes[3] = (place / 256 % 256) as u8;
-    bytes[4] = (place % 256) as u8;
-    frame::put_line(out, 0, bytes, 5);
-    if out.len() < 11 { 0 } else { 11 }
+    put_front(&refusal_bytes(number, place), out)
+}
+
+// The same of one of the paper's refusals.
+pub fn put_refusal(reason: Refusal, out: &mut [u8]) -> usize
+    ensures out_after { out.new ≡ placed out.old 0 (refusal_line (refusal reason)) }
+    ensures value { result ≡ line_in (refusal_line (refusal reason)) out.old }
+    ensures prefix_len { IsPrefixLen result out.new }
+{
+    put_refused(reason.number(), reason.place(), out)
 }

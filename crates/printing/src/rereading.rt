@@ -3,16 +3,14 @@ ghost use Rattle.io.specs.Counts.{IsPrefixLen};
 ghost use Rattle.printing.specs.Shown.{Rereads};
 
 use crate::refusals::put_refusal;
-use netlist::Answer;
 
 // A text read and written again, or the line of its refusal, at the front of `out`; how many bytes that took.
 pub fn reread(text: &[u8], out: &mut [u8]) -> usize
     ensures rereads { Rereads text.now out.old result out.new }
     ensures prefix_len { IsPrefixLen result out.new }
 {
-    let a = netlist::rewrite(text, out);
-    match a {
-        Answer::Done(n) => n,
-        Answer::Refused(q, p) => put_refusal(q, p, out),
+    match netlist::rewrite(text, out) {
+        Ok(len) => len,
+        Err(reason) => put_refusal(reason, out),
     }
 }

@@ -1,5 +1,5 @@
 // What is printed of a text's rails: a line of the total and one for each node, or the line of the refusal. The promise is in specs/Shared.
-ghost use Rattle.std.specs.Prelude.{◌≡◌, [], ◌∷◌, ◌++◌, ◌+◌, ◌*◌, ◌≤◌, length, take};
+ghost use Rattle.std.specs.Prelude.{◌≡◌, [], ◌∷◌, ◌++◌, ◌+◌, ◌*◌, ◌≤◌, length};
 ghost use Rattle.std.proofs.lemmas.List.Edits.{sets};
 ghost use Rattle.io.specs.Counts.{IsPrefixLen};
 ghost use Rattle.frame.specs.Frame.{bytes_of, placed};
@@ -8,62 +8,48 @@ ghost use Rattle.printing.specs.Shown.{line_in};
 ghost use Rattle.printing.specs.Shared.{rail_line, rail_lines, PrintsRails};
 
 use crate::refusals::put_refusal;
-use netlist::Answer;
 
 // The bytes of the line of the total.
-fn total_bytes(total: usize) -> [u8; 16]
-    ensures { take 5 result ≡ (10 ∷ []) ++ bytes_of 4 total }
+fn total_bytes(total: usize) -> [u8; 5]
+    ensures { result ≡ (10 ∷ []) ++ bytes_of 4 total }
 {
-    let mut b = [0u8; 16];
-    b[0] = 10;
-    b[1] = (total / 256 / 256 / 256 % 256) as u8;
-    b[2] = (total / 256 / 256 % 256) as u8;
-    b[3] = (total / 256 % 256) as u8;
-    b[4] = (total % 256) as u8;
-    b
+    let mut bytes = [10; 5];
+    bytes[1..].copy_from_slice(&total.to_be_bytes()[4..]);
+    bytes
 }
 
 // The bytes of the line of a node's rails.
-fn rail_bytes(node: u16, rails: u32) -> [u8; 16]
-    ensures { take 7 result ≡ (11 ∷ []) ++ bytes_of 2 node ++ bytes_of 4 rails }
+fn rail_bytes(node: u16, rails: u32) -> [u8; 7]
+    ensures { result ≡ (11 ∷ []) ++ bytes_of 2 node ++ bytes_of 4 rails }
 {
-    let mut b = [0u8; 16];
-    b[0] = 11;
-    b[1] = (node / 256 % 256) as u8;
-    b[2] = (node % 256) as u8;
-    b[3] = (rails / 256 / 256 / 256 % 256) as u8;
-    b[4] = (rails / 256 / 256 % 256) as u8;
-    b[5] = (rails / 256 % 256) as u8;
-    b[6] = (rails % 256) as u8;
-    b
+    let mut bytes = [11; 7];
+    bytes[1..3].copy_from_slice(&node.to_be_bytes());
+    bytes[3..].copy_from_slice(&rails.to_be_bytes());
+    bytes
 }
 
 // The lines of the nodes' rails, behind that of the total.
-fn put_nodes(table: &[u32], nodes: usize, out: &mut [u8])
-    requires { (nodes ≤ 512) × (nodes ≤ length table.now) × (11 + 15 * nodes ≤ length out.old) }
-    ensures { out.new ≡ sets out.old 11 (joined (rail_line table.now) nodes) }
+fn put_nodes(table: &[u32], out: &mut [u8])
+    requires { (length table.now ≤ 512) × (11 + 15 * length table.now ≤ length out.old) }
+    ensures { out.new ≡ sets out.old 11 (joined (rail_line table.now) (length table.now)) }
 {
-    let mut v = 0;
-    while v < nodes {
-        let b = rail_bytes(v as u16, table[v]);
-        frame::put_line(out, 11 + 15 * v, b, 7);
-        v += 1;
+    for (v, rails) in table.iter().enumerate() {
+        frame::put_line(out, 11 + 15 * v, &rail_bytes(v as u16, *rails));
     }
 }
 
 // The line of the total and those of the nodes' rails at the front of `out`, where there is room for all; how many bytes that took.
-fn put_counted(total: usize, table: &[u32], nodes: usize, out: &mut [u8]) -> usize
-    requires { (nodes ≤ 512) × (nodes ≤ length table.now) }
-    ensures out_after { out.new ≡ placed out.old 0 (rail_lines total table.now nodes) }
-    ensures value { result ≡ line_in (rail_lines total table.now nodes) out.old }
+fn put_counted(total: usize, table: &[u32], out: &mut [u8]) -> usize
+    requires { length table.now ≤ 512 }
+    ensures out_after { out.new ≡ placed out.old 0 (rail_lines total table.now (length table.now)) }
+    ensures value { result ≡ line_in (rail_lines total table.now (length table.now)) out.old }
 {
-    let len = 11 + 15 * nodes;
+    let len = 11 + 15 * table.len();
     if out.len() < len {
         return 0;
     }
-    let bytes = total_bytes(total);
-    frame::put_line(out, 0, bytes, 5);
-    put_nodes(table, nodes, out);
+    frame::put_line(out, 0, &total_bytes(total));
+    put_nodes(table, out);
     len
 }
 
@@ -72,13 +58,12 @@ pub fn put_rails(text: &[u8], table: &mut [u32], out: &mut [u8]) -> usize
     ensures prints_rails { PrintsRails text.now table.old table.new out.old result out.new }
     ensures prefix_len { IsPrefixLen result out.new }
 {
-    let a = rails::rails(text, table);
-    match a {
-        Answer::Done(total) => {
-            let reading = netlist::read(text);
-            let net = reading.net;
-            put_counted(total, table, net.nodes as usize, out)
-        }
-        Answer::Refused(q, p) => put_refusal(q, p, out),
+    let total = match rails::rails(text, table) {
+        Ok(total) => total,
+        Err(reason) => return put_refusal(reason, out),
+    };
+    match netlist::read(text) {
+        Ok(net) => put_counted(total, &table[..usize::from(net.nodes)], out),
+        Err(reason) => put_refusal(reason, out),
     }
 }

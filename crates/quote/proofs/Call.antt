@@ -2,29 +2,26 @@
 --   counted                a number depends on what is said
 --   unread, unread_said    the quote of a text that is refused: there is one, and it says that refusal and zeros
 --   of_net, net_of         of a text that reads: the quote of its netlist
+--   of_result              so of the call's result
 --   told_period, told_eight    what is said has its fact
 --   none                   the quote where 65,535 is refused
---   says_eight, says_unread    what a stage of the call says: 8, or a refusal of the reading
 use Prim.Native.Nat.{ℕ}
-use mathlib.Core.Path.{◌≡◌, refl, sym, ap, ◌∙◌, subst}
+use mathlib.Core.Path.{◌≡◌, refl, ap, ◌∙◌, subst}
 use mathlib.Core.List.{List}
 use lib.IntN.{ℤ, pos}
+use Rattle.std.proofs.Common.{Result, Ok, Err}
 use Rattle.netlist.specs.declared.Netlist.{Netlist}
-use Rattle.netlist.specs.declared.Place.{Place}
-use Rattle.netlist.specs.declared.Place.TheVariants.{Whole}
-use Rattle.netlist.specs.declared.Answer.{Answer}
-use Rattle.netlist.specs.declared.Answer.TheVariants.{Refused}
-use Rattle.netlist.specs.Answer.{Said, value, refused, whole, says}
+use Rattle.netlist.specs.declared.Refusal.{Refusal}
+use Rattle.netlist.specs.Answer.{Said, value, refused, whole}
 use Rattle.netlist.specs.Circuit.{LeastIn, NoneMeetsIn}
 use Rattle.netlist.specs.Order.{here, past}
 use Rattle.netlist.specs.Read.{Reads}
 use Rattle.netlist.proofs.Fits.{clash}
 use Rattle.netlist.proofs.Order.{later, no_stop, stopped}
 use Rattle.netlist.proofs.theorems.One.{one_reading}
-use Rattle.simulate.proofs.Answered.{says_refused}
 use Rattle.quote.specs.declared.Quoted.{Quoted}
-use Rattle.quote.specs.Quote.{Smallest, counted_if, Quotes}
-use Rattle.quote.specs.inner.Quoted.{FromEight, QuotesNet}
+use Rattle.quote.specs.Quote.{Smallest, counted_if, Quotes, QuoteOf}
+use Rattle.quote.specs.inner.Quoted.{FromEight, QuotesNet, QuoteOfNet}
 
 pub counted : {s x : Said} (n : ℕ) → s ≡ x → counted_if s n ≡ counted_if x n
 counted n e = ap (λ x. counted_if x n) e
@@ -49,6 +46,10 @@ module _ {t : List ℕ} {s : Said} {a b c : ℕ} (net : Netlist) (h : Reads t (v
       subst (λ n. QuotesNet n s a b c) e.1
       (record { lag = o.lag; answer = later s (no_stop 0 e.0) o.answer; total = o.total; widest = o.widest; chosen = o.chosen })
 
+pub of_result : {t : List ℕ} (net : Netlist) → Reads t (value 0) net → (r : Result Quoted Refusal) → QuoteOfNet net r → QuoteOf t r
+of_result net h (Ok q) x = of_net net h x
+of_result net h (Err e) x = of_net net h x
+
 module _ {net : Netlist} {r : ℕ → ℤ} where
   pub told_period : {p : ℕ} → FromEight net r (value p) → Smallest net p × LeastIn net p r
   told_period (here (_, e)) = clash (cc)
@@ -60,18 +61,3 @@ module _ {net : Netlist} {r : ℕ → ℤ} where
 
 pub none : {net : Netlist} → NoneMeetsIn net 65535 → QuotesNet net (whole 8) 0 0 0
 none n = record { lag = λ v. pos 0; answer = here (n, refl); total = refl; widest = refl; chosen = refl }
-
--- ── The stages of the call ──────────────────────────────────────────────────────────────────
-
-abbrev zeros : Answer → Quoted
-zeros a = record { answer = a; registers = 0; largest = 0; number = 0 }
-
-pub says_eight : {net : Netlist} {r : Quoted} → r ≡ zeros (Refused 8 Whole) → NoneMeetsIn net 65535 → QuotesNet net (says r.answer) r.registers r.largest r.number
-says_eight {net} e n = subst (λ r. QuotesNet net (says r.answer) r.registers r.largest r.number) (sym e) (none n)
-
-module _ (t : List ℕ) (a : Answer) (net : Netlist) (h : Reads t (says a) net) where
-  pub says_unread : {q : ℕ} {p : Place} {r : Quoted} → a ≡ Refused q p → r ≡ zeros a → Quotes t (says r.answer) r.registers r.largest r.number
-  says_unread e z =
-      let s = (says_refused a e).2 in
-      subst (λ r. Quotes t (says r.answer) r.registers r.largest r.number) (sym z)
-      (subst (λ s. Quotes t s 0 0 0) (sym s) (unread (subst (λ s. Reads t s net) s h)))

@@ -1,5 +1,4 @@
 -- The search for the smallest period, by halving.
---   tight_none, tight_found    what is promised in the two cases
 --   Halving             no period up to low is met, and the labels are those of the least retiming at high
 --   halving_start       it begins where 65,535 is met
 --   halving_met, halving_missed    a period between them takes the place of one
@@ -7,18 +6,15 @@
 use Prim.Native.Nat.{ℕ, ◌+◌, ◌<◌, ◌≤◌}
 use native.Mathlib.Omega.{arith}
 use mathlib.Core.Path.{◌≡◌}
-use mathlib.Core.Bool.{true, false}
 use mathlib.Core.List.{List}
 use lib.ListN.{length}
 use Rattle.graph.specs.Columns.{at}
 use Rattle.netlist.specs.declared.Netlist.{Netlist}
 use Rattle.netlist.specs.Circuit.{LeastIn, NoneMeetsIn}
-use Rattle.netlist.proofs.Fits.{clash}
 use Rattle.netlist.proofs.Run.{fit_rows}
-use Rattle.lags.specs.declared.Labels.{Labels}
-use Rattle.lags.specs.inner.Lags.{Sure, Leasts}
+use Rattle.lags.specs.inner.Lags.{Sure, Least}
 use Rattle.moves.specs.inner.Labels.{lags_of}
-use Rattle.quote.specs.inner.Quoted.{Tightest, Tightens}
+use Rattle.quote.specs.inner.Quoted.{Tightest}
 use Rattle.quote.proofs.theorems.Period.{longer_forbids_less}
 
 pub record Halving (net : Netlist) (low high : ℕ) (lab : List ℕ) : Type 0 where
@@ -29,27 +25,21 @@ pub record Halving (net : Netlist) (low high : ℕ) (lab : List ℕ) : Type 0 wh
   pub small : (v : ℕ) → v < net.nodes → at lab v < 32768
   pub rows : length lab ≡ 512
 
-pub tight_none : {net : Netlist} {p : ℕ} {lab : List ℕ} → NoneMeetsIn net 65535 → Tightens net false p lab
-tight_none n = record { tightest = λ z. clash (cc); none = λ _. n }
-
-pub tight_found : {net : Netlist} {p : ℕ} {lab : List ℕ} → Tightest net p lab → Tightens net true p lab
-tight_found t = record { tightest = λ _. t; none = λ z. clash (cc) }
-
 module _ (net : Netlist) where
-  pub halving_start : (r : Labels) → Leasts net 65535 r → r.found ≡ true → length r.lab ≡ 512 → Halving net 0 65535 r.lab
-  halving_start r l f rows =
-      record { apart = omega arith; period = omega arith; missed = λ q a b. absurd (let z : ⊥ = omega arith in z); met = l.least f; small = l.small; rows = rows }
+  pub halving_start : {lab : List ℕ} → Least net 65535 lab → length lab ≡ 512 → Halving net 0 65535 lab
+  halving_start l rows =
+      record { apart = omega arith; period = omega arith; missed = λ q a b. absurd (let z : ⊥ = omega arith in z); met = l.least; small = l.small; rows = rows }
 
   module _ {low high : ℕ} {lab : List ℕ} (h : Halving net low high lab) where
-    module _ (middle : ℕ) (above : low < middle) (below : middle < high) (r : Labels) (l : Leasts net middle r) where
-      pub halving_met : r.found ≡ true → length r.lab ≡ 512 → Halving net low middle r.lab
-      halving_met f rows = record { apart = above; period = omega (arith, h.period); missed = h.missed; met = l.least f; small = l.small; rows = rows }
+    module _ {middle : ℕ} (above : low < middle) (below : middle < high) where
+      pub halving_met : {tried : List ℕ} → Least net middle tried → length tried ≡ 512 → Halving net low middle tried
+      halving_met l rows = record { apart = above; period = omega (arith, h.period); missed = h.missed; met = l.least; small = l.small; rows = rows }
 
-      pub halving_missed : r.found ≡ false → Halving net middle high lab
-      halving_missed f = record {
+      pub halving_missed : NoneMeetsIn net middle → Halving net middle high lab
+      halving_missed n = record {
         apart = below;
         period = h.period;
-        missed = λ q a b. longer_forbids_less net q middle b (l.none f);
+        missed = λ q a b. longer_forbids_less net q middle b n;
         met = h.met;
         small = h.small;
         rows = h.rows;

@@ -5,15 +5,18 @@
 --   Smallest net p      every period below p is refused 8
 --   counted_if s n      a number of a quote that says s: 0 where it is a refusal
 --   Quotes t s a b c    the quote of the text t says s, with the register total a, the largest count b and the number of values to choose c
-use Rattle.std.specs.Prelude.{◌≡◌, List, ℕ, zero, suc, ◌<◌, ◌≤◌, max, ℤ}
+--   QuoteOf t r         so the call's result says, r: its numbers, or a refusal
+use Rattle.std.specs.Prelude.{◌≡◌, List, ℕ, zero, suc, ◌<◌, ◌≤◌, max, ℤ, Result, Ok, Err}
 use Rattle.theory.specs.Lag.{new_count}
 use Rattle.theory.specs.Move.{sum}
 use Rattle.netlist.specs.declared.Netlist.{Netlist}
-use Rattle.netlist.specs.Answer.{Said, value, refused, whole}
+use Rattle.netlist.specs.declared.Refusal.{Refusal}
+use Rattle.netlist.specs.Answer.{Said, value, refused, refusal, whole}
 use Rattle.netlist.specs.Net.{graph_of, regs_of}
 use Rattle.netlist.specs.Circuit.{NoneMeetsIn, LeastIn, chosen_in_at}
 use Rattle.netlist.specs.Order.{◌or_else◌, Given, GivenAt, Stops}
 use Rattle.netlist.specs.Read.{Reads}
+use Rattle.quote.specs.declared.Quoted.{Quoted}
 
 abbrev pub registers_at : Netlist → (ℕ → ℤ) → ℕ
 registers_at net r = sum (new_count (graph_of net) (regs_of net).count r) net.edges
@@ -50,3 +53,8 @@ pub record Quotes (t : List ℕ) (s : Said) (registers largest number : ℕ) : T
   pub total : registers ≡ counted_if s (registers_at net lag)
   pub widest : largest ≡ counted_if s (largest_at net lag)
   pub chosen : number ≡ counted_if s (chosen_in_at net lag)
+
+-- A refusal has no numbers.
+abbrev pub QuoteOf : List ℕ → Result Quoted Refusal → Type 0
+QuoteOf t (Ok q) = Quotes t (value q.period) q.registers q.largest q.number
+QuoteOf t (Err r) = Quotes t (refusal r) 0 0 0

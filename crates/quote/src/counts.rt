@@ -1,39 +1,19 @@
 // What the counts of a netlist come to.
-ghost use Rattle.std.specs.Prelude.{◌≡◌, ℕ, ◌≤◌, ◌<◌, max, length};
-ghost use Rattle.theory.specs.Move.{sum};
+ghost use Rattle.std.specs.Prelude.{◌≡◌, ℕ, ◌<◌, ◌≤◌, ◌^◌, length, sum};
 ghost use Rattle.graph.specs.Columns.{at};
-ghost use Rattle.quote.specs.Quote.{most};
 
-// "the register total". 1,024 counts below 65,536 each.
-pub fn total(counts: &[u32], edges: usize) -> u32
-    requires { (edges ≤ 1024) × (edges ≤ length counts.now) × ((e : ℕ) → e < edges → at counts.now e < 65536) }
-    ensures { result ≡ sum (at counts.now) edges }
+// "the register total".
+pub fn total(counts: &[u32]) -> u32
+    requires { sum counts.now < 2 ^ 32 }
+    ensures { result ≡ sum counts.now }
 {
-    let mut sum = 0;
-    let mut e = 0;
-    while e < edges {
-        sum += counts[e];
-        e += 1;
-    }
-    sum
-}
-
-fn larger(a: u32, b: u32) -> u32
-    ensures { result ≡ max a b }
-{
-    if a < b { b } else { a }
+    counts.iter().sum()
 }
 
 // "the largest count on an edge"
-pub fn largest(counts: &[u32], edges: usize) -> u32
-    requires { edges ≤ length counts.now }
-    ensures { result ≡ most (at counts.now) edges }
+pub fn largest(counts: &[u32]) -> u32
+    ensures above { (i : ℕ) → i < length counts.now → at counts.now i ≤ result }
+    ensures least { (b : ℕ) → ((i : ℕ) → i < length counts.now → at counts.now i ≤ b) → result ≤ b }
 {
-    let mut most = 0;
-    let mut e = 0;
-    while e < edges {
-        most = larger(most, counts[e]);
-        e += 1;
-    }
-    most
+    counts.iter().copied().max().unwrap_or(0)
 }

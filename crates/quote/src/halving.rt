@@ -11,10 +11,9 @@ use netlist::Netlist;
 // "Every smaller period is refused 8, and where 65,535 would be refused 8 so is the quote." The longest period that a head can have.
 const LONGEST_PERIOD: u32 = 65535;
 
-// `met`: the period is met, no smaller one is, and these are the labels of the least retiming there.
+// A period that is met while no smaller one is, and the labels of the least retiming there.
 #[derive(Clone, Copy)]
 pub struct Tight {
-    pub met: bool,
     pub period: u32,
     pub lab: [u32; NODES],
 }
@@ -29,41 +28,29 @@ fn next_try(low: u32, high: u32, step: u32) -> u32
     if near <= low {
         return half;
     }
-    if near < half { near } else { half }
+    near.min(half)
 }
 
-// What meets a period meets every longer one, so the smallest is found by halving: no period up to `low` is met, `high` is.
-pub fn tightest(net: Netlist) -> Tight
+// What meets a period meets every longer one, so the smallest is found by halving: no period up to `low` is met, `high` is. None, where no period is met.
+pub fn tightest(net: Netlist) -> Option<Tight>
     requires { Sure net }
-    ensures { Tightens net result.met result.period result.lab }
+    ensures { Tightens net result }
 {
     let ground = ground_of(net);
-    let delay = ground.delay;
-    let step = largest(&delay, net.nodes as usize);
-    let longest = least_at(net, ground, LONGEST_PERIOD);
-    let mut lab = longest.lab;
-    if !longest.found {
-        return Tight {
-            met: false,
-            period: 0,
-            lab,
-        };
-    }
+    let step = largest(&ground.delay[..net.nodes as usize]);
+    let mut lab = least_at(net, &ground, LONGEST_PERIOD)?;
     let mut low = 0;
     let mut high = LONGEST_PERIOD;
+    // Kept: no index is counted, the two ends approach each other.
     while low + 1 < high {
         let middle = next_try(low, high, step);
-        let tried = least_at(net, ground, middle);
-        if tried.found {
-            high = middle;
-            lab = tried.lab;
-        } else {
-            low = middle;
+        match least_at(net, &ground, middle) {
+            Some(tried) => {
+                high = middle;
+                lab = tried;
+            }
+            None => low = middle,
         }
     }
-    Tight {
-        met: true,
-        period: high,
-        lab,
-    }
+    Some(Tight { period: high, lab })
 }

@@ -4,67 +4,48 @@
 mod counts;
 mod halving;
 
-ghost use Rattle.std.specs.Prelude.{◌≡◌};
-ghost use Rattle.netlist.specs.Answer.{says};
 ghost use Rattle.lags.specs.inner.Lags.{Sure};
-ghost use Rattle.quote.specs.Quote.{Quotes};
-ghost use Rattle.quote.specs.inner.Quoted.{QuotesNet};
+ghost use Rattle.quote.specs.Quote.{QuoteOf};
+ghost use Rattle.quote.specs.inner.Quoted.{QuoteOfNet};
 
 use counts::{largest, total};
 use halving::tightest;
 use moves::{chosen, new_counts};
-use netlist::{Answer, Netlist, Place};
+use netlist::{Netlist, Refusal};
 
-// answer: the period, or a refusal. The numbers are 0 where it is a refusal.
-#[derive(Clone, Copy)]
+// The smallest period that is not refused 8, and of the least retiming there the register total, the largest count on an edge and the number of values to choose.
+#[derive(Clone, Copy, Debug, PartialEq, Eq)]
 pub struct Quoted {
-    pub answer: Answer,
+    pub period: u16,
     pub registers: u32,
     pub largest: u32,
     pub number: u32,
 }
 
-fn refused(answer: Answer) -> Quoted
-    ensures { result ≡ record { answer = answer; registers = 0; largest = 0; number = 0 } }
-{
-    Quoted {
-        answer,
-        registers: 0,
-        largest: 0,
-        number: 0,
-    }
-}
-
 // A netlist that was read: 8, or the numbers of the least retiming at the smallest period that is met.
-fn quote_net(net: Netlist) -> Quoted
+#[tactic(auto, using(crate::proofs::Figures::few_edges))]
+fn quote_net(net: Netlist) -> Result<Quoted, Refusal>
     requires { Sure net }
-    ensures { QuotesNet net (says result.answer) result.registers result.largest result.number }
+    ensures { QuoteOfNet net result }
 {
     let edges = net.edges as usize;
-    let tight = tightest(net);
-    if !tight.met {
-        return refused(Answer::Refused(8, Place::Whole));
-    }
-    let lab = tight.lab;
-    let counts = new_counts(net, &lab);
-    let base = chosen(net, &lab, &counts);
-    Quoted {
-        answer: Answer::Done(tight.period as usize),
-        registers: total(&counts, edges),
-        largest: largest(&counts, edges),
+    let Some(tight) = tightest(net) else {
+        return Err(Refusal::Period);
+    };
+    let counts = new_counts(net, &tight.lab);
+    let base = chosen(net, &tight.lab, &counts);
+    let moved = &counts[..edges];
+    Ok(Quoted {
+        period: tight.period as u16,
+        registers: total(moved),
+        largest: largest(moved),
         number: base[edges],
-    }
+    })
 }
 
 // A text's quote: the smallest period that is not refused 8, and the numbers of the least retiming there; or a refusal (1 to 7, 8).
-pub fn quote(text: &[u8]) -> Quoted
-    ensures { Quotes text.now (says result.answer) result.registers result.largest result.number }
+pub fn quote(text: &[u8]) -> Result<Quoted, Refusal>
+    ensures { QuoteOf text.now result }
 {
-    let reading = netlist::read(text);
-    let a = reading.answer;
-    let Answer::Done(_) = a else {
-        return refused(a);
-    };
-    let net = reading.net;
-    quote_net(net)
+    quote_net(netlist::read(text)?)
 }

@@ -1,6 +1,6 @@
 -- From what the call found to what it says.
 --   Row, row_one, row_some    the row of the call
---   reads_fit, rails_reads    the lines of a text that reads keep their rules; a reading that is done says a number
+--   reads_fit           the lines of a text that reads keep their rules
 --   total_is            a number that is given is the total of the text's netlist
 --   sound_counts        a text that reads and a table that is long enough are given it
 --   rails_stop, rails_short, rails_done    a refusal of the reading; 12; or the counts
@@ -9,19 +9,14 @@ use native.Mathlib.Omega.{arith}
 use native.Mathlib.Decide.{dec_lt}
 use mathlib.Core.Path.{◌≡◌, refl, sym, ap, ◌∙◌, subst, subst₂}
 use mathlib.Core.List.{List, [], ◌∷◌, ◌++◌}
-use lib.ListN.{length, drop}
-use Rattle.graph.specs.Columns.{at}
+use lib.ListN.{length, take, drop}
 use Rattle.netlist.specs.declared.Netlist.{Netlist}
-use Rattle.netlist.specs.declared.Place.{Place}
-use Rattle.netlist.specs.declared.Answer.{Answer}
-use Rattle.netlist.specs.declared.Answer.TheVariants.{Done, Refused}
-use Rattle.netlist.specs.Answer.{Said, value, says, whole}
+use Rattle.netlist.specs.Answer.{Said, value, refused, whole}
 use Rattle.netlist.specs.Order.{◌or_else◌, here, past, Given, Otherwise, Stops}
 use Rattle.netlist.specs.Net.{graph_of, regs_of}
 use Rattle.netlist.specs.Read.{Reads}
 use Rattle.netlist.specs.Write.{joined}
 use Rattle.netlist.specs.Theorems.{Fit}
-use Rattle.netlist.proofs.Answered.{goes_on, stands}
 use Rattle.netlist.proofs.Fits.{clash}
 use Rattle.netlist.proofs.Order.{One, Some, else_one, else_some, given_one, given?, later, no_stop, otherwise_one, stops_one, stops?}
 use Rattle.netlist.proofs.Rows.{rows_length}
@@ -29,7 +24,7 @@ use Rattle.netlist.proofs.theorems.One.{one_reading}
 use Rattle.netlist.proofs.theorems.Sound.{reads_keeps}
 use Rattle.rails.specs.Rails.{rails_at, rails_in, Rails}
 use Rattle.rails.specs.inner.Shared.{Counted}
-use Rattle.rails.proofs.Counted.{rails_total, counted_rows}
+use Rattle.rails.proofs.Counted.{rails_total, rows_taken, counted_rows}
 
 -- ── The row ─────────────────────────────────────────────────────────────────────────────────
 
@@ -67,28 +62,23 @@ sound_counts {t} {old} {net = net} {s} r h w =
 
 -- ── The three ends of the call ──────────────────────────────────────────────────────────────
 
-module _ (t old : List ℕ) (a : Answer) (net : Netlist) (reads : Reads t (says a) net) where
-  pub rails_stop : {q : ℕ} {p : Place} → a ≡ Refused q p → Rails t old (says a) old
-  rails_stop e =
-      let s = stands a e (joined (λ u. rails_at (graph_of net) (regs_of net) u ∷ []) net.nodes) old in
-      record { checked = says a; net = net; reads = reads; answer = here s.0; table = s.1 }
+module _ (t old : List ℕ) (net : Netlist) where
+  pub rails_stop : {q k p : ℕ} → Reads t (refused q k p) net → Rails t old (refused q k p) old
+  rails_stop {q} {k} {p} reads = record { checked = refused q k p; net = net; reads = reads; answer = here refl; table = refl }
 
-  module _ {n : ℕ} (e : a ≡ Done n) where
-    pub rails_reads : Reads t (value n) net
-    rails_reads = subst (λ s. Reads t s net) (ap says e) reads
-
+  module _ (reads : Reads t (value 0) net) where
     pub rails_short : length old < net.nodes → Rails t old (whole 12) old
-    rails_short h = record { checked = says a; net = net; reads = reads; answer = past (goes_on a e) (here (h, refl)); table = refl }
+    rails_short h = record { checked = value 0; net = net; reads = reads; answer = past (λ x s. s) (here (h, refl)); table = refl }
 
-    pub rails_done : net.nodes ≤ length old → {total : ℕ} {rails new : List ℕ} → Counted net net.edges total rails
-        → new ≡ joined (λ u. at rails u ∷ []) net.nodes ++ drop net.nodes old → Rails t old (value total) new
-    rails_done h {total} {rails} {new} c p =
+    pub rails_done : net.nodes ≤ length old → {total : ℕ} {rails new : List ℕ} → Counted net net.edges total rails → net.nodes ≤ length rails
+        → new ≡ take net.nodes rails ++ drop net.nodes old → Rails t old (value total) new
+    rails_done h {total} {rails} {new} c long p =
         let rows = joined (λ u. rails_at (graph_of net) (regs_of net) u ∷ []) net.nodes in
-        let fit = reads_fit rails_reads in record {
-          checked = says a;
+        let fit = reads_fit reads in record {
+          checked = value 0;
           net = net;
           reads = reads;
-          answer = past (goes_on a e) (past (λ x g. omega (arith, g.0)) (ap value (c.all ∙ sym (rails_total net fit))));
-          table = p ∙ ap (λ l. l ++ drop net.nodes old) (counted_rows net c)
+          answer = past (λ x s. s) (past (λ x g. omega (arith, g.0)) (ap value (c.all ∙ sym (rails_total net fit))));
+          table = p ∙ ap (λ l. l ++ drop net.nodes old) (sym (rows_taken rails net.nodes long) ∙ counted_rows net c)
               ∙ ap (λ k. rows ++ drop k old) (sym (rows_length (rails_at (graph_of net) (regs_of net)) net.nodes));
         }

@@ -2,17 +2,16 @@
 --   counted_none, counted_more    no edge; one edge more
 --   total_few, node_few    no more than 32 an edge, in all and so at a node
 --   rails_total         the total of the nodes is that of the edges
---   rows_more, counted_rows    one more row put in; the rows of a table that holds the counts
-use Prim.Native.Nat.{ℕ, suc, ◌+◌, ◌*◌, ◌<◌, ◌≤◌}
+--   rows_taken, counted_rows    the rows of a table are its front; the rows of a table that holds the counts
+use Prim.Native.Nat.{ℕ, zero, suc, ◌+◌, ◌*◌, ◌<◌, ◌≤◌}
 use native.Mathlib.Omega.{arith}
-use native.Mathlib.Numerals.{add-one}
 use native.Mathlib.Decide.{ℕ_discrete}
 use mathlib.Core.Path.{◌≡◌, refl, sym, ap, ap₂, ◌∙◌}
 use mathlib.Core.Bool.{Bool, true, false, cond}
-use mathlib.Core.List.{List, [], ◌∷◌, ◌++◌, append_assoc}
+use mathlib.Core.List.{List, [], ◌∷◌, ◌++◌}
 use lib.Dec.{eqb}
-use lib.ListN.{length, get_or, set, drop, replicate}
-use lib.Seq.{drop-cons, set_at, get_or-set_same, get_or-set_other}
+use lib.ListN.{length, set, take, replicate}
+use lib.Seq.{take-suc, get_or-set_same, get_or-set_other}
 use borrow.Author.Tests.{eq-eqb, ne_eqb}
 use Rattle.theory.specs.Graph.{Graph}
 use Rattle.theory.specs.Clock.{Regs}
@@ -24,7 +23,7 @@ use Rattle.netlist.specs.Net.{zeros, graph_of, regs_of}
 use Rattle.netlist.specs.Write.{joined}
 use Rattle.netlist.specs.Theorems.{Fit}
 use Rattle.netlist.proofs.Lowest.{count_low}
-use Rattle.netlist.proofs.Rows.{zeros_at, rows_length, joined_same}
+use Rattle.netlist.proofs.Rows.{zeros_at, joined_same}
 use Rattle.netlist.proofs.Run.{fit_wired}
 use Rattle.rails.specs.Rails.{paid_on, rails_at, rails_in}
 use Rattle.rails.specs.inner.Shared.{Counted}
@@ -80,10 +79,8 @@ module _ (net : Netlist) where
       → joined (λ u. at rails u ∷ []) net.nodes ≡ joined (λ u. rails_at G R u ∷ []) net.nodes
   counted_rows {total} {rails} c = joined_same (λ u. at rails u ∷ []) (λ u. rails_at G R u ∷ []) net.nodes (λ u h. ap (λ x. x ∷ []) (c.node u h))
 
--- One more row put into a list of which the first n are rows.
-pub rows_more : (f : ℕ → ℕ) (n : ℕ) (old : List ℕ) → n < length old → set (joined (λ i. f i ∷ []) n ++ drop n old) n (f n) ≡ joined (λ i. f i ∷ []) (n + 1) ++ drop (n + 1) old
+-- The rows of a table are its front.
+pub rows_taken : (l : List ℕ) (n : ℕ) → n ≤ length l → joined (λ u. at l u ∷ []) n ≡ take n l
 unfolding joined
-rows_more f n old h =
-    let xs = joined (λ i. f i ∷ []) n in
-    rw (add-one n) (ap (λ l. set (xs ++ l) n (f n)) (drop-cons old n (f n) h)
-    ∙ set_at xs (get_or old n (f n)) (drop (suc n) old) (f n) n (rows_length f n) ∙ sym (append_assoc xs (f n ∷ []) (drop (suc n) old)))
+rows_taken l zero h = refl
+rows_taken l (suc n) h = ap (λ a. a ++ (at l n ∷ [])) (rows_taken l n (omega arith)) ∙ sym (take-suc l n 0 (omega arith))

@@ -12,7 +12,7 @@ ghost use Rattle.rails.specs.Rails.{paid_on, Rails};
 ghost use Rattle.rails.specs.inner.Shared.{Further, Counted};
 
 use graph::NODES;
-use netlist::{Answer, Netlist, Place};
+use netlist::{Netlist, Refusal};
 
 // The n values of a word of w that are nearest to the feeding node, as a number: the nearest is bit w − 1.
 fn nearest(word: u32, w: u32, n: u32) -> u32
@@ -27,47 +27,34 @@ fn further(a: u32, w: u32, b: u32, x: u32, m: u32) -> u32
     requires { (m ≤ w) × (w ≤ 32) × (x ≤ 32) × (a < 2 ^ w) × (b < 2 ^ x) }
     ensures { Further (digit w a) w (digit x b) x m result }
 {
-    let mut n = m;
-    while n < w {
-        if x <= n {
+    for n in m..w {
+        if x <= n || nearest(a, w, n + 1) != nearest(b, x, n + 1) {
             return n;
         }
-        if nearest(a, w, n + 1) != nearest(b, x, n + 1) {
-            return n;
-        }
-        n += 1;
     }
-    n
-}
-
-// All registers of an edge but the nearest, which are shared.
-fn unshared(count: u32, shared: u32) -> u32
-    requires { shared ≤ count }
-    ensures { result ≡ count - shared }
-{
-    count - shared
+    w
 }
 
 // How many registers of the edge e are paid for: those that no lower edge shares.
+#[tactic(auto, using(crate::proofs::Few::few_edges))]
 fn paid(net: &Netlist, e: usize) -> u32
     requires { Fit net.now × (e < net.now.edges) }
     ensures { (result ≡ paid_on (graph_of net.now) (regs_of net.now) e) × (result ≤ 32) }
 {
     let from = net.from[e];
-    let count = net.count[e] as u32;
+    let count = u32::from(net.count[e]);
     let start = net.start[e];
     let mut shared = 0;
-    let mut i = 0;
-    while i < e {
+    for i in 0..e {
         if net.from[i] == from {
-            shared = further(start, count, net.start[i], net.count[i] as u32, shared);
+            shared = further(start, count, net.start[i], u32::from(net.count[i]), shared);
         }
-        i += 1;
     }
-    unshared(count, shared)
+    count - shared
 }
 
 // The total, and each node's count.
+// Kept: no heap, so the counts are a column of fixed size.
 #[derive(Clone, Copy)]
 struct Bill {
     total: u32,
@@ -75,51 +62,31 @@ struct Bill {
 }
 
 // Each edge's registers that are paid for, at the node that it leaves.
+#[tactic(auto, using(crate::proofs::Few::few_edges))]
 fn count_all(net: &Netlist) -> Bill
     requires { Fit net.now }
     ensures { Counted net.now net.now.edges result.total result.rails }
 {
-    let edges = net.edges as usize;
-    let mut rails = [0u32; NODES];
+    let mut rails = [0; NODES];
     let mut total = 0;
-    let mut e = 0;
-    while e < edges {
-        let u = net.from[e] as usize;
+    for e in 0..usize::from(net.edges) {
         let n = paid(net, e);
-        rails[u] += n;
+        rails[usize::from(net.from[e])] += n;
         total += n;
-        e += 1;
     }
     Bill { total, rails }
 }
 
-// The counts of the nodes at the front of the table.
-fn put_rails(rails: &[u32], nodes: usize, table: &mut [u32])
-    requires { (nodes ≤ length rails.now) × (nodes ≤ length table.old) }
-    ensures { table.new ≡ joined (λ u. at rails.now u ∷ []) nodes ++ drop nodes table.old }
-{
-    let mut u = 0;
-    while u < nodes {
-        table[u] = rails[u];
-        u += 1;
-    }
-}
-
 // Each node's count of shared registers into the table, in node order; the answer is the total, or a refusal (reading's, 12), which leaves the table.
-pub fn rails(text: &[u8], table: &mut [u32]) -> Answer
+pub fn rails(text: &[u8], table: &mut [u32]) -> Result<usize, Refusal>
     ensures { Rails text.now table.old (says result) table.new }
 {
-    let reading = netlist::read(text);
-    let a = reading.answer;
-    let Answer::Done(_) = a else {
-        return a;
-    };
-    let net = reading.net;
-    let nodes = net.nodes as usize;
+    let net = netlist::read(text)?;
+    let nodes = usize::from(net.nodes);
     if table.len() < nodes {
-        return Answer::Refused(12, Place::Whole);
+        return Err(Refusal::Room);
     }
-    let b = count_all(&net);
-    put_rails(&b.rails, nodes, table);
-    Answer::Done(b.total as usize)
+    let bill = count_all(&net);
+    table[..nodes].copy_from_slice(&bill.rails[..nodes]);
+    Ok(bill.total as usize)
 }

@@ -2,18 +2,16 @@
 // `0F`, number (1), place kind (1: 00 whole, 01 line, 02 node, 03 edge), place (2, 0 for whole).
 #![tactic(auto)]
 
-// File descriptors.
-const STDIN: i32 = 0;
-
-const STDOUT: i32 = 1;
+use std::io;
+use std::io::{Read, Write};
 
 // "a text of up to 32,768 bytes (more decides nothing)".
 const LONGEST: usize = 32768;
 
-fn main() {
-    let mut text = [0u8; LONGEST];
-    let n = io::read_full(STDIN, &mut text);
-    let mut out = [0u8; LONGEST];
-    let m = printing::reread(&text[..n], &mut out);
-    io::write_all(STDOUT, &out[..m]);
+fn main(rt: HostRuntime) -> io::Result<()> {
+    let mut text = Vec::new(rt.alloc());
+    rt.reader().take(LONGEST as u64).read_to_end(&mut text)?;
+    let mut out = vec![in rt.alloc(); 0; LONGEST]?;
+    let len = printing::reread(&text, &mut out);
+    io::writer(&rt).write_all(&out[..len])
 }

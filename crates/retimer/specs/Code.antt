@@ -3,16 +3,15 @@
 --   place p             the last two of these
 --   Coded P r           r is the number of something that a call says, of which P holds
 use Rattle.std.specs.Prelude.{◌≡◌, ℕ, ◌+◌, ◌*◌}
-use Rattle.netlist.specs.Answer.{Said, value, refused, says}
+use Rattle.netlist.specs.Answer.{Said, value, refused, kind_of, index_of}
 use Rattle.netlist.specs.declared.Place.{Place}
-use Rattle.netlist.specs.declared.Answer.TheVariants.{Refused}
 
 abbrev pub place_code : Said → ℕ
 place_code (value n) = 0
 place_code (refused q k p) = k * 65536 + p
 
 abbrev pub place : Place → ℕ
-place p = place_code (says (Refused 0 p))
+place p = place_code (refused 0 (kind_of p) (index_of p))
 
 abbrev pub code : Said → ℕ
 code (value n) = n

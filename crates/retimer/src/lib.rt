@@ -1,14 +1,14 @@
 // The library for programs in C and Rust (include/retimer.h). specs/Calls has what each call promises, specs/Code what its number says.
 //
-// A record is lent as a struct by reference, so its field types are its ranges. Each call that takes one copies it, calls the core of `coded`
-// that takes it by value, and puts back what comes of it: it decides nothing itself.
+// A record is lent as a struct by reference, so its field types are its ranges. Each call that takes one copies it, and puts back what comes of it:
+// it decides nothing itself.
 #![tactic(auto)]
 
 ghost use Rattle.retimer.specs.Calls.{ReadCall, CheckCall, WriteCall, StepCall, RunCall, RetimeCall, RereadCall, QuoteCall, RailsCall};
 
 mod coded;
 
-use coded::{answer_code, check_coded, quote_coded, read_coded, step_coded, write_coded};
+use coded::{answer_code, refusal_code};
 use netlist::Netlist;
 use simulate::Machine;
 
@@ -26,9 +26,13 @@ pub struct Figures {
 pub extern "C" fn retimer_read(text: &[u8], net: &mut Netlist) -> u64
     ensures { ReadCall text.now net.old result net.new }
 {
-    let r = read_coded(text, *net);
-    *net = r.net;
-    r.code
+    match netlist::read(text) {
+        Ok(read) => {
+            *net = read;
+            0
+        }
+        Err(reason) => refusal_code(reason),
+    }
 }
 
 // A record checked as if its lines were read.
@@ -36,7 +40,10 @@ pub extern "C" fn retimer_read(text: &[u8], net: &mut Netlist) -> u64
 pub extern "C" fn retimer_check(net: &Netlist) -> u64
     ensures { CheckCall net.now result }
 {
-    check_coded(*net)
+    match netlist::check(*net) {
+        Ok(_) => 0,
+        Err(reason) => refusal_code(reason),
+    }
 }
 
 // A record written.
@@ -44,7 +51,7 @@ pub extern "C" fn retimer_check(net: &Netlist) -> u64
 pub extern "C" fn retimer_write(net: &Netlist, out: &mut [u8]) -> u64
     ensures { WriteCall net.now out.old result out.new }
 {
-    write_coded(*net, out)
+    answer_code(netlist::write(*net, out))
 }
 
 // One clock of a record on the machine.
@@ -57,9 +64,7 @@ pub extern "C" fn retimer_step(
 ) -> u64
     ensures { StepCall net.now machine.old vector.now out.old result machine.new out.new }
 {
-    let r = step_coded(*net, *machine, vector, out);
-    *machine = r.machine;
-    r.code
+    answer_code(simulate::step_in_place(*net, machine, vector, out))
 }
 
 // A text run on these vectors.
@@ -67,8 +72,7 @@ pub extern "C" fn retimer_step(
 pub extern "C" fn retimer_run(text: &[u8], vectors: &[u8], out: &mut [u8]) -> u64
     ensures { RunCall text.now vectors.now out.old result out.new }
 {
-    let a = simulate::run(text, vectors, out);
-    answer_code(a)
+    answer_code(simulate::run(text, vectors, out))
 }
 
 // A text retimed.
@@ -76,8 +80,7 @@ pub extern "C" fn retimer_run(text: &[u8], vectors: &[u8], out: &mut [u8]) -> u6
 pub extern "C" fn retimer_retime(text: &[u8], out: &mut [u8], lags: &mut [i32]) -> u64
     ensures { RetimeCall text.now out.old lags.old result out.new lags.new }
 {
-    let a = retime::retime(text, out, lags);
-    answer_code(a)
+    answer_code(retime::retime(text, out, lags))
 }
 
 // A text read and written again.
@@ -85,8 +88,7 @@ pub extern "C" fn retimer_retime(text: &[u8], out: &mut [u8], lags: &mut [i32]) 
 pub extern "C" fn retimer_reread(text: &[u8], out: &mut [u8]) -> u64
     ensures { RereadCall text.now out.old result out.new }
 {
-    let a = netlist::rewrite(text, out);
-    answer_code(a)
+    answer_code(netlist::rewrite(text, out))
 }
 
 // A text quoted: the number is the period, the figures are written; a refusal leaves them as they were.
@@ -94,9 +96,17 @@ pub extern "C" fn retimer_reread(text: &[u8], out: &mut [u8]) -> u64
 pub extern "C" fn retimer_quote(text: &[u8], figures: &mut Figures) -> u64
     ensures { QuoteCall text.now figures.old result figures.new }
 {
-    let r = quote_coded(text, *figures);
-    *figures = r.figures;
-    r.code
+    match quote::quote(text) {
+        Ok(quote) => {
+            *figures = Figures {
+                registers: quote.registers,
+                largest: quote.largest,
+                number: quote.number,
+            };
+            quote.period as u64
+        }
+        Err(reason) => refusal_code(reason),
+    }
 }
 
 // A text's rails: each node's into the table, the number is their total; a refusal leaves the table as it was.
@@ -104,6 +114,5 @@ pub extern "C" fn retimer_quote(text: &[u8], figures: &mut Figures) -> u64
 pub extern "C" fn retimer_rails(text: &[u8], table: &mut [u32]) -> u64
     ensures { RailsCall text.now table.old result table.new }
 {
-    let a = rails::rails(text, table);
-    answer_code(a)
+    answer_code(rails::rails(text, table))
 }

@@ -1,3 +1,2 @@
--- A table that is the tabulation of a rule; words and their leading zeros.
-pub mod Tables
+-- Words and their leading zeros.
 pub mod Words

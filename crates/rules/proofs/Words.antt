@@ -1,5 +1,6 @@
 -- Words: a word of k bits and its leading zeros.
 --   leading_clear       no bit stands at or above the count exactly where enough zeros lead
+--   word_clear          the same of a word of 32 bits
 use mathlib.Core.Path.{◌≡◌, sym, ◌∙◌}
 use Prim.Native.Nat.{ℕ, suc, ◌+◌, ◌-◌, ◌*◌, ◌<◌, ◌≤◌, ◌^◌}
 use native.Mathlib.Nat.{lt_of_lt_of_le, lt_of_not-le, pow-suc}
@@ -22,3 +23,13 @@ leading_clear k a count h g = go (leading_length k a h).0 (leading_length k a h)
         let p : 2 ^ suc count ≤ 2 ^ m = pow_mono l in
         let d : 2 ^ suc count ≡ 2 ^ count * 2 = pow-suc 2 count in
         lt-leb (k - count) (count_leading_zeros k a) (omega arith) ∙ sym (le-ltb a (2 ^ count) (omega arith))
+
+-- the same of a word of 32 bits and any count: past 32 no bit stands above it
+pub word_clear : (a count : ℕ) → a < 2 ^ 32 → leb (32 - count) (count_leading_zeros 32 a) ≡ ltb a (2 ^ count)
+word_clear a count h = go (dec_le count 32)
+  where
+    go : Dec (count ≤ 32) → leb (32 - count) (count_leading_zeros 32 a) ≡ ltb a (2 ^ count)
+    go (yes l) = leading_clear 32 a count h l
+    go (no n) =
+        let l : 32 ≤ count = omega arith in
+        le-leb (32 - count) (count_leading_zeros 32 a) (omega arith) ∙ sym (lt-ltb a (2 ^ count) (lt_of_lt_of_le h (pow_mono l)))

@@ -1,3 +1,5 @@
+-- A part of a list that is put anew.
+pub mod Parts
 -- Dues by level, and the loops that put them in rows.
 pub mod Dues
 pub mod Putting

@@ -2,6 +2,7 @@
 --   prefers_low, prefers_through     what the search uses of the order of preference: no larger list is preferred; what is not preferred to one, and that not to another, is not to the other
 --   list_order          of two lists with one choice, one whose fillings are no larger each is no larger
 --   Filled              a number of n digits, which are the first n fillings
+--   filled_bit          a filling is a bit
 --   filled_none, filled_more    none yet, and one more
 --   filled_few, filled_list     their number is small; with the choice behind them they are its list
 --   list_ready          the fillings can be read off the cells
@@ -19,17 +20,17 @@ use native.Mathlib.Nat.{mul-le-mul_left, mul-le-mul_right, suc-mul, div-eq_of_lt
 use native.Mathlib.Numerals.{add-one}
 use native.Mathlib.Decide.{ℕ_discrete, dec_lt}
 use mathlib.Core.Path.{◌≡◌, refl, sym, subst, ap, ◌∙◌}
-use mathlib.Core.Bool.{Bool, true, false}
-use mathlib.Core.Logic.{⊎_elim, ◌⊎◌, inl, inr}
+use Rattle.std.specs.Prelude.{Option, Some, None}
+use mathlib.Core.Logic.{⊎_elim}
 use mathlib.Core.List.{List}
 use lib.ListN.{length}
 use lib.Pow.{pow_pos, pow_mono, pow-add, shr-shr, high, low}
+use Rattle.std.proofs.lemmas.List.{get_or_past}
 use Rattle.theory.specs.Move.{digit, Prefers}
 use Rattle.theory.proofs.numbers.Digits.{digit_last, digit_above}
 use Rattle.graph.specs.Columns.{at}
-use Rattle.search.specs.declared.Choice.{Choice}
-use Rattle.search.specs.inner.Program.{Program, value_at, GivesDues, Fillable, FillsTo, Fulfils, SolvesLists}
-use Rattle.search.specs.inner.States.{Valued, ListOf, Better}
+use Rattle.search.specs.inner.Program.{Program, value_at, GivesDues, asked, Fillable, FillsTo, Fulfils, SolvesLists}
+use Rattle.search.specs.inner.States.{Valued, filled, ListOf, Better}
 use Rattle.search.proofs.Next.{half}
 use Rattle.search.proofs.Values.{value_bit}
 
@@ -64,28 +65,33 @@ list_order n k a d small le e =
 
 -- ── Fillings ────────────────────────────────────────────────────────────────────────────────
 
-pub record Filled (fill sig : List ℕ) (n r : ℕ) : Type 0 where
+pub record Filled (fill : List (Option ℕ)) (sig : List ℕ) (n r : ℕ) : Type 0 where
   pub few : r < 2 ^ n
-  pub free : (x : ℕ) → x < n → at fill x ≡ 0 → digit n r x ≡ 0
-  pub read : (x : ℕ) → x < n → 0 < at fill x → digit n r x ≡ at sig (31 + at fill x)
+  pub digits : (x : ℕ) → x < n → digit n r x ≡ filled sig (asked fill x)
 
-module _ {fill sig : List ℕ} where
+-- A filling that is asked for has a place.
+asked_in : (fill : List (Option ℕ)) (x i : ℕ) → asked fill x ≡ Some i → x < length fill
+asked_in fill x i e = go (dec_lt x (length fill))
+  where
+    go : Dec (x < length fill) → x < length fill
+    go (yes h) = h
+    go (no n) = absurd (let z : None ≡ Some i = sym (get_or_past fill x None (omega arith)) ∙ e in cc)
+
+pub filled_bit : (sig : List ℕ) (place : Option ℕ) → ((i : ℕ) → place ≡ Some i → at sig (32 + i) ≤ 1) → filled sig place ≤ 1
+filled_bit sig (Some i) h = h i refl
+filled_bit sig None h = omega arith
+
+module _ {fill : List (Option ℕ)} {sig : List ℕ} where
   pub filled_none : Filled fill sig 0 0
-  filled_none = record { few = omega arith; free = λ x h. absurd (let z : ⊥ = omega arith in z); read = λ x h. absurd (let z : ⊥ = omega arith in z) }
+  filled_none = record { few = omega arith; digits = λ x h. absurd (let z : ⊥ = omega arith in z) }
 
   module _ {n r : ℕ} (s : Filled fill sig n r) where
-    pub filled_more : (b : ℕ) → b ≤ 1 → (at fill n ≡ 0 → b ≡ 0) × (0 < at fill n → b ≡ at sig (31 + at fill n)) → Filled fill sig (n + 1) (2 * r + b)
-    filled_more b h w = rw (add-one n) (record {
-      few = omega (arith, s.few);
-      free = λ x l z. go x l (ℕ_discrete x n) (λ v. v ≡ 0) (λ q. w.0 (sym (ap (at fill) q) ∙ z)) (λ q. s.free x q z);
-      read = λ x l z.
-          go x l (ℕ_discrete x n) (λ v. v ≡ at sig (31 + at fill x))
-          (λ q. rw q (w.1 (subst (λ y. 0 < at fill y) q z))) (λ q. s.read x q z);
-    })
+    pub filled_more : (b : ℕ) → b ≤ 1 → b ≡ filled sig (asked fill n) → Filled fill sig (n + 1) (2 * r + b)
+    filled_more b h w = rw (add-one n) (record { few = omega (arith, s.few); digits = λ x l. go x l (ℕ_discrete x n) })
       where
-        go : (x : ℕ) → x < suc n → Dec (x ≡ n) → (A : ℕ → Type 0) → (x ≡ n → A b) → (x < n → A (digit n r x)) → A (digit (suc n) (2 * r + b) x)
-        go x l (yes q) A own old = subst A (sym (digit_last n x r b q h)) (own q)
-        go x l (no q) A own old = subst A (sym (digit_above n x r b (omega arith) h)) (old (omega arith))
+        go : (x : ℕ) → x < suc n → Dec (x ≡ n) → digit (suc n) (2 * r + b) x ≡ filled sig (asked fill x)
+        go x l (yes q) = digit_last n x r b q h ∙ w ∙ ap (λ y. filled sig (asked fill y)) (sym q)
+        go x l (no q) = digit_above n x r b (omega arith) h ∙ s.digits x (omega arith)
 
     pub filled_few : (m : ℕ) → n ≤ m → r < 2 ^ m
     filled_few m h = omega (arith, s.few, pow_mono h)
@@ -94,8 +100,7 @@ module _ {fill sig : List ℕ} where
     filled_list k c e l = record {
       few = omega (arith, ap (λ m. 2 ^ (m + k)) e, pow-add 2 n k, suc-mul r (2 ^ k), mul-le-mul_right (2 ^ k) s.few);
       choice = low r k l;
-      free = λ x h z. same x h ∙ s.free x (omega arith) z;
-      read = λ x h z. same x h ∙ s.read x (omega arith) z;
+      digits = λ x h. same x h ∙ s.digits x (omega arith);
     }
       where
         same : (x : ℕ) → x < length fill → digit (length fill + k) (r * 2 ^ k + c) x ≡ digit n r x
@@ -105,79 +110,78 @@ module _ {fill sig : List ℕ} where
 
 -- ── The list of a choice ────────────────────────────────────────────────────────────────────
 
-module _ {cells k : ℕ} {P : Program} {fill : List ℕ} (a : Fillable cells k fill) {c p : ℕ} {sig : List ℕ} (v : Valued cells k P c p sig) (whole : cells ≤ p) where
-  asked : (x : ℕ) → x < length fill → 0 < at fill x → at sig (31 + at fill x) ≡ value_at P k c (at fill x - 1)
-  asked x h l =
-      let z : 31 + at fill x ≡ 32 + (at fill x - 1) = omega arith in
-      ap (at sig) z ∙ v.values (at fill x - 1) (omega (arith, a.cell x h))
+module _ {cells k : ℕ} {P : Program} {fill : List (Option ℕ)} (a : Fillable cells k fill) {c p : ℕ} {sig : List ℕ} (v : Valued cells k P c p sig) (whole : cells ≤ p) where
+  shown : (x i : ℕ) → asked fill x ≡ Some i → at sig (32 + i) ≡ value_at P k c i
+  shown x i e = v.values i (omega (arith, a.cell x i e))
 
-  pub list_ready : (x : ℕ) → x < length fill → (31 + at fill x < length sig) × (0 < at fill x → at sig (31 + at fill x) ≤ 1)
-  list_ready x h = (omega (arith, a.cell x h, v.size), λ l. rw (asked x h l) (value_bit P k c (at fill x - 1)))
+  pub list_ready : (x i : ℕ) → asked fill x ≡ Some i → (32 + i < length sig) × (at sig (32 + i) ≤ 1)
+  list_ready x i e = (omega (arith, a.cell x i e, v.size), rw (shown x i e) (value_bit P k c i))
 
   module _ {list : ℕ} (l : ListOf k fill sig c list) where
-    list_reads : (x : ℕ) → x < length fill → 0 < at fill x → digit (length fill + k) list x ≡ value_at P k c (at fill x - 1)
-    list_reads x h q = l.read x h q ∙ asked x h q
+    list_reads : (x i : ℕ) → asked fill x ≡ Some i → digit (length fill + k) list x ≡ value_at P k c i
+    list_reads x i e = l.digits x (asked_in fill x i e) ∙ ap (filled sig) e ∙ shown x i e
 
     pub list_fulfils : (due : List ℕ) (total : ℕ) → GivesDues k P due total c → Fulfils k P due total fill list
-    list_fulfils due total g = (subst (GivesDues k P due total) (sym l.choice) g, λ x h. go x h (ℕ_discrete (at fill x) 0))
-      where
-        go : (x : ℕ) → x < length fill → Dec (at fill x ≡ 0)
-            → (at fill x ≡ 0) ⊎ (digit (length fill + k) list x ≡ value_at P k (list % 2 ^ k) (at fill x - 1))
-        go x h (yes z) = inl z
-        go x h (no z) = inr (rw l.choice (list_reads x h (omega arith)))
+    list_fulfils due total g = (subst (GivesDues k P due total) (sym l.choice) g, λ x i e. rw l.choice (list_reads x i e))
 
     pub list_least : (d : ℕ) → d % 2 ^ k ≡ c → FillsTo k P fill d → ¬ Prefers d list
-    list_least d e w = prefers_low list d (list_order (length fill) k list d l.few (λ x h. go x h (ℕ_discrete (at fill x) 0) (w x h)) (l.choice ∙ sym e))
+    list_least d e w = prefers_low list d (list_order (length fill) k list d l.few (λ x h. go x h (asked fill x) refl) (l.choice ∙ sym e))
       where
-        go : (x : ℕ) → x < length fill → Dec (at fill x ≡ 0)
-            → (at fill x ≡ 0) ⊎ (digit (length fill + k) d x ≡ value_at P k (d % 2 ^ k) (at fill x - 1))
-            → digit (length fill + k) list x ≤ digit (length fill + k) d x
-        go x h (yes z) q = omega (arith, l.free x h z)
-        go x h (no z) (inl q) = absurd (z q)
-        go x h (no z) (inr q) = omega (arith, list_reads x h (omega arith), q, ap (λ n. value_at P k n (at fill x - 1)) e)
+        go : (x : ℕ) → x < length fill → (place : Option ℕ) → asked fill x ≡ place → digit (length fill + k) list x ≤ digit (length fill + k) d x
+        go x h (Some i) q = omega (arith, list_reads x i q, w x i q, ap (λ n. value_at P k n i) e)
+        go x h None q = omega (arith, l.digits x h, ap (filled sig) q)
 
 -- ── The best of those that were tried ───────────────────────────────────────────────────────
 
-pub record Tried (k : ℕ) (P : Program) (due : List ℕ) (total : ℕ) (fill : List ℕ) (c : ℕ) (best : Choice) : Type 0 where
-  pub fulfils : best.found ≡ true → (best.choice < 2 ^ (length fill + k)) × Fulfils k P due total fill best.choice
-  pub kept : (d : ℕ) → d < 2 ^ (length fill + k) → d % 2 ^ k < c → Fulfils k P due total fill d → (best.found ≡ true) × ¬ Prefers d best.choice
+-- There is a best so far, and d is not preferred to it.
+pub record Unbeaten (best : Option ℕ) (d : ℕ) : Type 0 where
+  pub x : ℕ
+  pub is : best ≡ Some x
+  pub over : ¬ Prefers d x
 
-pub tried_none : {k : ℕ} {P : Program} {due : List ℕ} {total : ℕ} {fill : List ℕ} {best : Choice} → best.found ≡ false → Tried k P due total fill 0 best
-tried_none none = record { fulfils = λ f. absurd (let y : true ≡ false = sym f ∙ none in cc); kept = λ d h l f. absurd (let y : ⊥ = omega arith in y) }
+pub record Tried (k : ℕ) (P : Program) (due : List ℕ) (total : ℕ) (fill : List (Option ℕ)) (c : ℕ) (best : Option ℕ) : Type 0 where
+  pub fulfils : (x : ℕ) → best ≡ Some x → (x < 2 ^ (length fill + k)) × Fulfils k P due total fill x
+  pub kept : (d : ℕ) → d < 2 ^ (length fill + k) → d % 2 ^ k < c → Fulfils k P due total fill d → Unbeaten best d
 
-module _ {k : ℕ} {P : Program} {due : List ℕ} {total : ℕ} {fill : List ℕ} {c : ℕ} {best : Choice} (t : Tried k P due total fill c best) where
+pub tried_none : {k : ℕ} {P : Program} {due : List ℕ} {total : ℕ} {fill : List (Option ℕ)} → Tried k P due total fill 0 None
+tried_none = record { fulfils = λ x e. absurd (cc); kept = λ d h l f. absurd (let y : ⊥ = omega arith in y) }
+
+module _ {k : ℕ} {P : Program} {due : List ℕ} {total : ℕ} {fill : List (Option ℕ)} {c : ℕ} {best : Option ℕ} (t : Tried k P due total fill c best) where
   pub tried_on : (n : ℕ) → ((d : ℕ) → c ≤ d → d < n → ¬ GivesDues k P due total d) → Tried k P due total fill n best
   tried_on n dead = record { fulfils = t.fulfils; kept = λ d h l f. go d h l f (dec_lt (d % 2 ^ k) c) }
     where
-      go : (d : ℕ) → d < 2 ^ (length fill + k) → d % 2 ^ k < n → Fulfils k P due total fill d → Dec (d % 2 ^ k < c)
-          → (best.found ≡ true) × ¬ Prefers d best.choice
+      go : (d : ℕ) → d < 2 ^ (length fill + k) → d % 2 ^ k < n → Fulfils k P due total fill d → Dec (d % 2 ^ k < c) → Unbeaten best d
       go d h l f (yes q) = t.kept d h q f
       go d h l f (no q) = absurd (dead (d % 2 ^ k) (omega arith) l f.0)
 
-  pub tried_more : {list : ℕ} {after : Choice} → Better best list after → list < 2 ^ (length fill + k) → Fulfils k P due total fill list
-      → ((d : ℕ) → d % 2 ^ k ≡ c → FillsTo k P fill d → ¬ Prefers d list) → Tried k P due total fill (suc c) after
+  pub tried_more : {list after : ℕ} → Better best list after → list < 2 ^ (length fill + k) → Fulfils k P due total fill list
+      → ((d : ℕ) → d % 2 ^ k ≡ c → FillsTo k P fill d → ¬ Prefers d list) → Tried k P due total fill (suc c) (Some after)
   tried_more {list} {after} b small w least = record {
-    fulfils = λ e. ⊎_elim (λ q. right (sym q) (small, w)) (λ q. right (sym q.1) (t.fulfils q.0)) b.one;
-    kept = λ d h l f. (b.found, go d h l f (ℕ_discrete (d % 2 ^ k) c));
+    fulfils = λ x e. let z : after ≡ x = cc in subst Fits z (⊎_elim (λ q. subst Fits (sym q) (small, w)) (t.fulfils after) b.one);
+    kept = λ d h l f. record { x = after; is = refl; over = go d h l f (ℕ_discrete (d % 2 ^ k) c) };
   }
     where
-      right : {x : ℕ} → x ≡ after.choice → (x < 2 ^ (length fill + k)) × Fulfils k P due total fill x
-          → (after.choice < 2 ^ (length fill + k)) × Fulfils k P due total fill after.choice
-      right q = subst (λ x. (x < 2 ^ (length fill + k)) × Fulfils k P due total fill x) q
+      Fits : ℕ → Type 0
+      Fits x = (x < 2 ^ (length fill + k)) × Fulfils k P due total fill x
 
-      go : (d : ℕ) → d < 2 ^ (length fill + k) → d % 2 ^ k < suc c → Fulfils k P due total fill d → Dec (d % 2 ^ k ≡ c) → ¬ Prefers d after.choice
-      go d h l f (yes e) = prefers_through d list after.choice (least d e f.1) b.over_list
+      go : (d : ℕ) → d < 2 ^ (length fill + k) → d % 2 ^ k < suc c → Fulfils k P due total fill d → Dec (d % 2 ^ k ≡ c) → ¬ Prefers d after
+      go d h l f (yes e) = prefers_through d list after (least d e f.1) b.over_list
       go d h l f (no n) =
           let q = t.kept d h (omega arith) f in
-          prefers_through d best.choice after.choice q.1 (b.over_best q.0)
+          prefers_through d q.x after q.over (b.over_best q.x q.is)
 
-  pub tried_end : ((d : ℕ) → c ≤ d % 2 ^ k → (best.found ≡ true) × ¬ Prefers d best.choice) → SolvesLists k P due total fill best.found best.choice
-  tried_end later = go best.found refl
+  pub tried_end : ((d : ℕ) → c ≤ d % 2 ^ k → Unbeaten best d) → SolvesLists k P due total fill best
+  tried_end later = go best refl
     where
-      all : (d : ℕ) → d < 2 ^ (length fill + k) → Fulfils k P due total fill d → Dec (d % 2 ^ k < c) → (best.found ≡ true) × ¬ Prefers d best.choice
+      all : (d : ℕ) → d < 2 ^ (length fill + k) → Fulfils k P due total fill d → Dec (d % 2 ^ k < c) → Unbeaten best d
       all d h f (yes q) = t.kept d h q f
       all d h f (no q) = later d (omega arith)
 
-      go : (b : Bool) → best.found ≡ b → SolvesLists k P due total fill b best.choice
-      go true e = let r = t.fulfils e in (r.0, r.1, λ d h p f. (all d h f (dec_lt (d % 2 ^ k) c)).1 p)
-      go false e = λ d h f. let q : true ≡ false = sym (all d h f (dec_lt (d % 2 ^ k) c)).0 ∙ e in cc
+      go : (b : Option ℕ) → best ≡ b → SolvesLists k P due total fill b
+      go (Some x) e =
+          let r = t.fulfils x e in (
+            r.0,
+            r.1,
+            λ d h p f. let q = all d h f (dec_lt (d % 2 ^ k) c) in let z : x ≡ q.x = (let y : Some x ≡ Some q.x = sym e ∙ q.is in cc) in q.over (subst (Prefers d) z p),
+          )
+      go None e = λ d h f. let q = all d h f (dec_lt (d % 2 ^ k) c) in let y : None ≡ Some q.x = sym e ∙ q.is in cc

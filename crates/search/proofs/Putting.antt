@@ -1,5 +1,6 @@
 -- Putting dues in rows: what holds before each turn of the loops.
 --   climb               levels begin in rising order
+--   level_put           the cells of one level more have their levels
 --   Onward              to put the rest from p on is to put the whole from n on into the old row
 --   onward_size         the row is as long as the old one
 --   onward_hit, onward_miss, onward_part    one due further, of the level or of another; one edge's dues further
@@ -20,8 +21,10 @@ use native.Mathlib.Decide.{ℕ_discrete, dec_lt}
 use native.Mathlib.Numerals.{add-one}
 use mathlib.Core.Path.{◌≡◌, refl, sym, subst, ap, ◌∙◌}
 use mathlib.Core.List.{List, [], ◌∷◌, ◌++◌}
-use lib.ListN.{length, take, set, length-append, length-set}
+use lib.ListN.{length, take, set, replicate, length-append, length-set}
 use lib.Seq.{sets, length-sets, get_or-set_same}
+use borrow.Rule.Slice.PartMut.{put_mid}
+use Rattle.std.proofs.lemmas.List.{length-replicate, get_or-replicate}
 use Rattle.graph.specs.Columns.{at}
 use Rattle.graph.specs.inner.Sort.{Stands}
 use Rattle.theory.proofs.numbers.Stores.{sets_sets}
@@ -30,7 +33,8 @@ use Rattle.graph.proofs.Fills.{fill_with}
 use Rattle.gates.specs.inner.Gates.{part}
 use Rattle.gates.proofs.Words.{part_length}
 use Rattle.search.specs.inner.Program.{Owes}
-use Rattle.search.specs.inner.Rows.{of_level, RowsEnd, Rows, SameDues}
+use Rattle.search.specs.inner.Rows.{Level, of_level, RowsEnd, Rows, SameDues}
+use Rattle.search.proofs.Parts.{put_before, put_within}
 use Rattle.search.proofs.Dues.{part_join, level_none, level_hit, level_miss, level_append, level_few, ranked, ranked_more, ranked_room, ranked_place, ranked_grows, ranked_first, ranked_holds}
 
 -- ── Columns ─────────────────────────────────────────────────────────────────────────────────
@@ -42,6 +46,28 @@ climb levels many up a (suc b) h l = go (λ q. climb levels many up a b q (omega
     go : (a ≤ b → at levels a ≤ at levels b) → Dec (a ≡ suc b) → at levels a ≤ at levels (suc b)
     go before (yes e) = rw e (omega arith)
     go before (no e) = omega (arith, before (omega arith), up b l)
+
+-- The cells of level m, after those of the lower ones.
+pub level_put : (levels : List ℕ) (many m : ℕ) (level : List ℕ) {part : List ℕ} → at levels m ≤ at levels (m + 1) → at levels (m + 1) ≤ length level → m < many
+    → ((j : ℕ) → j < at levels m → Level levels many j (at level j)) → part ≡ replicate (at levels (m + 1) - at levels m) m
+    → (j : ℕ) → j < at levels (m + 1) → Level levels many j (at (put_mid (at levels m) (at levels (m + 1) - at levels m) level part) j)
+level_put levels many m level {part} up fits few low is j h = go (dec_lt j lo)
+  where
+    lo : ℕ
+    lo = at levels m
+
+    n : ℕ
+    n = at levels (m + 1) - at levels m
+
+    size : length part ≡ n
+    size = ap length is ∙ length-replicate n m
+
+    go : Dec (j < lo) → Level levels many j (at (put_mid lo n level part) j)
+    go (yes l) = subst (Level levels many j) (sym (put_before lo n level part size (omega arith) j l)) (low j l)
+    go (no l) =
+        subst (Level levels many j)
+        (sym (put_within lo n level part size (omega arith) j (omega arith) (omega arith) ∙ ap (λ l. at l (j - lo)) is ∙ get_or-replicate n (j - lo) m 0 (omega arith)))
+        (record { from = omega arith; below = (rw (add-one m) at h); few = few })
 
 -- ── The dues of one level ───────────────────────────────────────────────────────────────────
 

@@ -9,7 +9,7 @@ use native.Mathlib.Numerals.{add-one}
 use native.Mathlib.Nat.{mod-eq_of_lt}
 use mathlib.Core.Path.{◌≡◌, sym, ap, subst}
 use mathlib.Core.Logic.{◌↔◌}
-use mathlib.Core.Bool.{Bool, true, false}
+use Rattle.std.specs.Prelude.{Option, Some, None}
 use mathlib.Core.List.{List, []}
 use lib.ListN.{length}
 use Rattle.theory.proofs.moves.Prefers.{prefers_below}
@@ -27,9 +27,9 @@ module _ (k : ℕ) (P : Program) {due : List ℕ} {total : ℕ} {row : List ℕ}
   row_holds : (c : ℕ) → GivesDues k P due total c → GivesDues k P row dues c
   row_holds c h d l = let t = s.sound d l in subst (λ y. y % 2 ≡ value_at P k c (y / 2)) t.holds (h t.place t.within)
 
-  solves_same : (fill : List ℕ) (found : Bool) (c : ℕ) → SolvesLists k P row dues fill found c → SolvesLists k P due total fill found c
-  solves_same fill true c r = (r.0, (due_holds (c % 2 ^ k) r.1.0, r.1.1), λ d l p w. r.2 d l p (row_holds (d % 2 ^ k) w.0, w.1))
-  solves_same fill false c r = λ d l w. r d l (row_holds (d % 2 ^ k) w.0, w.1)
+  solves_same : (fill : List (Option ℕ)) (best : Option ℕ) → SolvesLists k P row dues fill best → SolvesLists k P due total fill best
+  solves_same fill (Some c) r = (r.0, (due_holds (c % 2 ^ k) r.1.0, r.1.1), λ d l p w. r.2 d l p (row_holds (d % 2 ^ k) w.0, w.1))
+  solves_same fill None r = λ d l w. r d l (row_holds (d % 2 ^ k) w.0, w.1)
 
 pub owes_wider : {cells : ℕ} (n : ℕ) {due begin : List ℕ} {edges : ℕ} → Owes cells due begin edges → cells ≤ n → Owes n due begin edges
 owes_wider n o h = record {
@@ -41,27 +41,27 @@ owes_wider n o h = record {
   cell = λ x l. omega (arith, o.cell x l);
 }
 
-pub solves_planned : {s : Size} {due begin level row left : List ℕ} {e : Extent} → RowsPlanned s due begin level row left e
-    → (P : Program) (fill : List ℕ) (found : Bool) (c : ℕ) → SolvesLists e.bits P row e.dues fill found c → SolvesLists s.bits P due (at begin s.edges) fill found c
-solves_planned {s} {row = row} {e = e} p P fill found c r = solves_same s.bits P p.same fill found c (subst (λ b. SolvesLists b P row e.dues fill found c) p.bits r)
+pub solves_planned : {s : Size} {due begin : List ℕ} {edges : ℕ} {level row left : List ℕ} {e : Extent} → RowsPlanned s due begin edges level row left e
+    → (P : Program) (fill : List (Option ℕ)) (best : Option ℕ) → SolvesLists e.bits P row e.dues fill best → SolvesLists s.bits P due (at begin edges) fill best
+solves_planned {s} {row = row} {e = e} p P fill best r = solves_same s.bits P p.same fill best (subst (λ b. SolvesLists b P row e.dues fill best) p.bits r)
 
 pub none_fillable : {cells k : ℕ} {P : Program} → RightProgram cells k P → Fillable cells k []
-none_fillable f = record { few = omega (arith, f.few_bits); cell = λ x h. absurd (let z : ⊥ = omega arith in z) }
+none_fillable f = record { few = omega (arith, f.few_bits); cell = λ x i e. absurd (let z : None ≡ Some i = e in cc) }
 
 module _ (k : ℕ) (P : Program) (due : List ℕ) (total : ℕ) where
   unfilled : (c : ℕ) → c < 2 ^ k → Fulfils k P due total [] c ↔ GivesDues k P due total c
   unfilled c h =
       let e = mod-eq_of_lt h in (
         λ w. subst (GivesDues k P due total) e w.0,
-        λ w. (subst (GivesDues k P due total) (sym e) w, λ x l. absurd (let z : ⊥ = omega arith in z)),
+        λ w. (subst (GivesDues k P due total) (sym e) w, λ x i q. absurd (let z : None ≡ Some i = q in cc)),
       )
 
-  pub solves_choice : (found : Bool) (c : ℕ) → SolvesLists k P due total [] found c → Solves k P due total found c
-  solves_choice true c a =
+  pub solves_choice : (best : Option ℕ) → SolvesLists k P due total [] best → Solves k P due total best
+  solves_choice (Some c) a =
       let same : 2 ^ (0 + k) ≡ 2 ^ k = ap (λ n. 2 ^ n) (omega arith) in
       let small : c < 2 ^ k = omega (arith, a.0) in
       (small, (unfilled c small).0 a.1, λ d p w. let h : d < 2 ^ k = prefers_below p small in a.2 d (omega arith) p ((unfilled d h).1 w))
-  solves_choice false c a = λ d h w.
+  solves_choice None a = λ d h w.
       let same : 2 ^ (0 + k) ≡ 2 ^ k = ap (λ n. 2 ^ n) (omega arith) in
       a d (omega arith) ((unfilled d h).1 w)
 

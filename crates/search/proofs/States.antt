@@ -19,8 +19,7 @@ use native.Mathlib.Omega.{arith}
 use native.Mathlib.Nat.{zero-div, div-eq_of_lt-le, div-mul-le_self, mod-eq_of_lt, mod-le}
 use native.Mathlib.Decide.{ℕ_discrete, dec_lt}
 use native.Mathlib.Numerals.{add-one}
-use mathlib.Core.Path.{◌≡◌, sym, subst, ap, ◌∙◌}
-use mathlib.Core.Bool.{false}
+use mathlib.Core.Path.{◌≡◌, refl, sym, subst, ap, ◌∙◌}
 use mathlib.Core.Logic.{⊎_elim, ◌⊎◌, inl, inr}
 use mathlib.Core.List.{List, map}
 use lib.ListN.{length, set, length-set}
@@ -29,7 +28,9 @@ use lib.Pow.{pow_pos}
 use Rattle.theory.specs.Gate.{gate}
 use Rattle.graph.specs.Columns.{at}
 use Rattle.gates.specs.inner.Gates.{part, Reckons, InputRows}
-use Rattle.search.specs.declared.Choice.{Choice}
+use Rattle.gates.proofs.Words.{part_length}
+use Rattle.gates.proofs.Row.{part_rows}
+use Rattle.std.specs.Prelude.{Option, Some, None}
 use Rattle.search.specs.declared.choices.Extent.{Extent}
 use Rattle.search.specs.declared.choices.Turn.{Turn}
 use Rattle.search.specs.inner.Program.{Program, look, values_to, value_at, GivesDues, Fillable, SolvesLists}
@@ -43,8 +44,8 @@ use Rattle.search.proofs.Lists.{prefers_low, prefers_through, list_fulfils, list
 -- ── Cells ───────────────────────────────────────────────────────────────────────────────────
 
 pub truth_next : {cells k : ℕ} {kind : List ℕ} {E : Evaluator} {i : ℕ} → Executable cells k kind E → i < cells
-    → Reckons (at kind i) (at E.first (i + 1) - at E.first i) (at E.truth i)
-truth_next {i = i} r l = rw (add-one i) (r.truths i l)
+    → Reckons (at kind i) (length (part E.operand (at E.first i) (at E.first (i + 1)))) (at E.truth i)
+truth_next {E = E} {i = i} r l = rw (add-one i, part_length E.operand (at E.first i) (at E.first (suc i)) (r.program.in_rows i l)) (r.truths i l)
 
 module _ {cells k : ℕ} {kind : List ℕ} {E : Evaluator} {c p : ℕ} {sig : List ℕ} (r : Executable cells k kind E) (s : Valued cells k (program_in E kind) c p sig)
     (l : p < cells) where
@@ -62,19 +63,14 @@ module _ {cells k : ℕ} {kind : List ℕ} {E : Evaluator} {c p : ℕ} {sig : Li
           ∙ sym (values_at (program_in E kind) k c p m (omega arith))
           ∙ sym (look_cell k c _ (at E.operand j) w.0)
 
-  pub valued_seen : InputRows (at E.truth p) E.operand (at E.first p) (at E.first (p + 1)) sig
-  valued_seen = rw (add-one p) (record {
-    up = r.program.rising p l;
-    in_list = r.program.in_rows p l;
-    narrow = (r.truths p l).narrow;
-    signals = λ j a b. (
-      ⊎_elim
-          (λ (w : at E.operand j < k). omega (arith, s.size, r.program.few_bits))
-          (λ (w : (32 ≤ at E.operand j) × (at E.operand j < 32 + p)). omega (arith, s.size, r.program.few_cells))
-          (r.program.earlier p j l a b),
-      rw (signal j a b) (operand_bit r.program c p j l a b),
-    );
-  })
+  pub valued_seen : InputRows (at E.truth p) (part E.operand (at E.first p) (at E.first (p + 1))) sig
+  valued_seen = rw (add-one p) (part_rows (at E.truth p) E.operand (at E.first p) (at E.first (suc p)) sig (r.program.in_rows p l) (r.truths p l).narrow (λ j a b. (
+    ⊎_elim
+        (λ (w : at E.operand j < k). omega (arith, s.size, r.program.few_bits))
+        (λ (w : (32 ≤ at E.operand j) × (at E.operand j < 32 + p)). omega (arith, s.size, r.program.few_cells))
+        (r.program.earlier p j l a b),
+    rw (signal j a b) (operand_bit r.program c p j l a b),
+  )))
 
   pub valued_value : {x : ℕ} → x ≡ gate (at kind p) (map (at sig) (part E.operand (at E.first p) (at E.first (p + 1)))) → x ≡ value_at (program_in E kind) k c p
   valued_value e =
@@ -96,7 +92,7 @@ module _ {cells k : ℕ} {kind : List ℕ} {E : Evaluator} {c p : ℕ} {sig : Li
 
 -- ── Choices ─────────────────────────────────────────────────────────────────────────────────
 
-pub record Searching (e : Extent) (P : Program) (row fill : List ℕ) (best : Choice) (c p : ℕ) (sig : List ℕ) (d : ℕ) : Type 0 where
+pub record Searching (e : Extent) (P : Program) (row : List ℕ) (fill : List (Option ℕ)) (best : Option ℕ) (c p : ℕ) (sig : List ℕ) (d : ℕ) : Type 0 where
   pub limit : c ≤ 2 ^ e.bits
   pub tried : Tried e.bits P row e.dues fill c best
   pub valued : Valued e.cells e.bits P c p sig
@@ -106,12 +102,11 @@ pub record Searching (e : Extent) (P : Program) (row fill : List ℕ) (best : Ch
 climbs : {e : Extent} {P : Program} {level row left : List ℕ} → Plan e P level row left → (a b : ℕ) → a ≤ b → b ≤ suc e.bits → at e.levels a ≤ at e.levels b
 climbs {e} g = climb e.levels (suc e.bits) (λ n h. g.levelled.climbs n (omega arith))
 
-module _ {e : Extent} {P : Program} {level row left fill : List ℕ} (g : Plan e P level row left) where
-  pub searching_start : {best : Choice} → best.found ≡ false → (sig : List ℕ) → 32 + e.cells ≤ length sig → ((x : ℕ) → x < 32 → at sig x ≡ 0)
-      → Searching e P row fill best 0 0 sig 0
-  searching_start none sig n z = record {
+module _ {e : Extent} {P : Program} {level row left : List ℕ} {fill : List (Option ℕ)} (g : Plan e P level row left) where
+  pub searching_start : (sig : List ℕ) → 32 + e.cells ≤ length sig → ((x : ℕ) → x < 32 → at sig x ≡ 0) → Searching e P row fill None 0 0 sig 0
+  searching_start sig n z = record {
     limit = omega arith;
-    tried = tried_none none;
+    tried = tried_none;
     valued = record {
       size = n;
       few = omega arith;
@@ -122,11 +117,11 @@ module _ {e : Extent} {P : Program} {level row left fill : List ℕ} (g : Plan e
     agreed = λ x h. absurd (let y : ⊥ = omega arith in y);
   }
 
-  module _ {best : Choice} {c p : ℕ} {sig : List ℕ} {d : ℕ} (s : Searching e P row fill best c p sig d) where
+  module _ {best : Option ℕ} {c p : ℕ} {sig : List ℕ} {d : ℕ} (s : Searching e P row fill best c p sig d) where
     pub searching_on : {q : ℕ} {after : List ℕ} → Valued e.cells e.bits P c q after → Searching e P row fill best c q after d
     searching_on v = record { limit = s.limit; tried = s.tried; valued = v; few = s.few; agreed = s.agreed }
 
-    pub searching_none : 2 ^ e.bits ≤ c → SolvesLists e.bits P row e.dues fill best.found best.choice
+    pub searching_none : 2 ^ e.bits ≤ c → SolvesLists e.bits P row e.dues fill best
     searching_none h = tried_end s.tried (λ d l. absurd (let y : ⊥ = omega (arith, pow_pos e.bits) in y))
 
     -- A later choice: a jump from level m, where the cells and the dues below the first changed level were looked at.
@@ -153,7 +148,7 @@ module _ {e : Extent} {P : Program} {level row left fill : List ℕ} (g : Plan e
             let w = g.in_rows.low j.level x (omega (arith, j.most)) h in
             omega (arith, (g.level_of i (g.cell x (omega (arith, before, s.few)))).below, climbs g (suc (at level i)) j.level w (omega (arith, j.most)))
 
-        pub searching_jump : {next : Choice} → length after ≡ length sig → Tried e.bits P row e.dues fill (next_after c (e.bits - m)) next
+        pub searching_jump : {next : Option ℕ} → length after ≡ length sig → Tried e.bits P row e.dues fill (next_after c (e.bits - m)) next
             → Searching e P row fill next t.choice t.cell after t.due
         searching_jump {next} n tried = rw (j.cell_at, j.due_at) (record {
           limit = omega (arith, j.next, (next_bounds c e.bits (e.bits - m) small (omega arith)).1);
@@ -207,23 +202,23 @@ module _ {e : Extent} {P : Program} {level row left fill : List ℕ} (g : Plan e
 
     -- All dues agree, and all cells are evaluated.
     module _ (a : Fillable e.cells e.bits fill) (all : e.dues ≤ d) (whole : e.cells ≤ p) {list : ℕ} (o : ListOf e.bits fill sig c list)
-        {after : Choice} (b : Better best list after) where
-      tried_own : Tried e.bits P row e.dues fill (suc c) after
+        {after : ℕ} (b : Better best list after) where
+      tried_own : Tried e.bits P row e.dues fill (suc c) (Some after)
       tried_own = tried_more s.tried b o.few (list_fulfils a s.valued whole o row e.dues (λ x h. s.agreed x (omega arith))) (list_least a s.valued whole o)
 
       pub searching_next : c < 2 ^ e.bits → {new : List ℕ} {t : Turn} → Jumped c e.bits e.bits e.levels e.rows sig new t → length new ≡ length sig
-          → Searching e P row fill after t.choice t.cell new t.due
+          → Searching e P row fill (Some after) t.choice t.cell new t.due
       searching_next small j n =
           searching_jump (omega arith) small j
           (omega (arith, climbs g j.level (suc e.bits) (omega (arith, j.most)) (omega arith), g.levelled.whole))
           (omega (arith, g.in_rows.most j.level (omega (arith, j.most)), g.whole)) n
-          (subst (λ x. Tried e.bits P row e.dues fill x after) next tried_own)
+          (subst (λ x. Tried e.bits P row e.dues fill x (Some after)) next tried_own)
         where
           next : suc c ≡ next_after c (e.bits - e.bits)
           next = let z : e.bits - e.bits ≡ 0 = omega arith in rw z (omega arith)
 
       -- No later list is preferred to one whose fillings are all 0.
-      pub searching_found : list < 2 ^ e.bits → SolvesLists e.bits P row e.dues fill after.found after.choice
+      pub searching_found : list < 2 ^ e.bits → SolvesLists e.bits P row e.dues fill (Some after)
       searching_found h =
           tried_end tried_own
-          (λ d l. (b.found, prefers_through d list after.choice (prefers_low list d (omega (arith, o.choice, mod-eq_of_lt h, mod-le d (2 ^ e.bits)))) b.over_list))
+          (λ d l. record { x = after; is = refl; over = prefers_through d list after (prefers_low list d (omega (arith, o.choice, mod-eq_of_lt h, mod-le d (2 ^ e.bits)))) b.over_list })

@@ -28,11 +28,9 @@ use Rattle.simulate.proofs.Clock.{shown, shown_none, shown_some, value_gate}
 
 -- The columns of a plan, as long as they are in its record.
 pub record Rows (p : Plan) : Type 0 where
-  pub node : length p.node ≡ 512
   pub first : length p.first ≡ 513
   pub sees : length p.sees ≡ 1024
   pub truth : length p.truth ≡ 512
-  pub index : length p.index ≡ 264
 
 module _ (net : Netlist) (p : Plan) (plan : Planned net p) (ok : Steppable net) where
   -- ── A plan can be evaluated ───────────────────────────────────────────────────────────────
@@ -57,15 +55,14 @@ module _ (net : Netlist) (p : Plan) (plan : Planned net p) (ok : Steppable net) 
         signals = λ k a b. let w = plan.each k (omega (arith, r.1)) in subst (λ x. x < 1536) (sym w.2) (signal_in w.0 w.1);
       }
 
-  pub plan_evaluable : Rows p → (sig : List ℕ) → length sig ≡ 1536 → AllBits sig → Evaluable p.node p.truth p.index p.first p.sees p.gates 0 sig
+  pub plan_evaluable : Rows p → (sig : List ℕ) → length sig ≡ 1536 → AllBits sig → Evaluable p.node p.truth p.first p.sees (length p.node) 0 sig
   plan_evaluable rows sig size bits = record {
-    table = plan.table;
-    in_node = omega (arith, plan.few, rows.node);
+    in_node = omega arith;
     placed = λ i h. subst (λ n. GateRows p.truth p.first p.sees 0 n (at p.node i)) (sym size) (node_placed rows (at p.node i) (plan.gate i h).0);
     bits = bits;
   }
 
-  pub plan_truths : Truths net.kind p.node p.truth p.first p.gates
+  pub plan_truths : Truths net.kind p.node p.truth p.first (length p.node)
   plan_truths i h = plan.truth (at p.node i) (plan.gate i h).0
 
   -- ── The values ────────────────────────────────────────────────────────────────────────────
@@ -80,7 +77,7 @@ module _ (net : Netlist) (p : Plan) (plan : Planned net p) (ok : Steppable net) 
       pub shows : (e : ℕ) → e < net.edges → ¬ (at net.count e ≡ 0) → at sig (512 + e) ≡ bit (at words e) 0
 
     -- The source of an edge without a register is an input, or an earlier node of the plan; another edge shows its register.
-    signal_right : (sig : List ℕ) (i e : ℕ) → Right sig i → i < p.gates → e < net.edges → at net.to e ≡ at p.node i
+    signal_right : (sig : List ℕ) (i e : ℕ) → Right sig i → i < (length p.node) → e < net.edges → at net.to e ≡ at p.node i
         → at sig (signal net e) ≡ shown net words now e
     signal_right sig i e r h l q = go (ℕ_discrete (at net.count e) 0)
       where
@@ -103,7 +100,7 @@ module _ (net : Netlist) (p : Plan) (plan : Planned net p) (ok : Steppable net) 
     given sig v = gate (at net.kind v) (map (at sig) (part p.sees (at p.first v) (at p.first (suc v))))
 
     -- It sees what the paper has it see.
-    node_right : (sig : List ℕ) (i : ℕ) → Right sig i → i < p.gates → given sig (at p.node i) ≡ now (at p.node i)
+    node_right : (sig : List ℕ) (i : ℕ) → Right sig i → i < (length p.node) → given sig (at p.node i) ≡ now (at p.node i)
     node_right sig i r h =
         let v = at p.node i in
         let g = plan.gate i h in
@@ -112,7 +109,7 @@ module _ (net : Netlist) (p : Plan) (plan : Planned net p) (ok : Steppable net) 
         ∙ gather_same (at net.to) (λ e. at sig (signal net e)) (shown net words now) v net.edges (λ e k q. signal_right sig i e r h k q))
         ∙ sym (value_gate net (fit_wired net ok.fit) ok.no_loop words vector v g.0 g.1)
 
-    right_more : (sig : List ℕ) (i : ℕ) → length sig ≡ 1536 → i < p.gates → Right sig i
+    right_more : (sig : List ℕ) (i : ℕ) → length sig ≡ 1536 → i < (length p.node) → Right sig i
         → Right (set sig (at p.node i) (given sig (at p.node i))) (suc i)
     right_more sig i n h r = record {
       inputs = λ u k q. keep u (r.inputs u k q);
@@ -144,7 +141,7 @@ module _ (net : Netlist) (p : Plan) (plan : Planned net p) (ok : Steppable net) 
     abbrev after : List ℕ → ℕ → List ℕ
     after sig n = evaluated net.kind p.node p.first p.sees 0 n sig
 
-    right_all : (sig : List ℕ) → length sig ≡ 1536 → Right sig 0 → (n : ℕ) → n ≤ p.gates → Right (after sig n) n
+    right_all : (sig : List ℕ) → length sig ≡ 1536 → Right sig 0 → (n : ℕ) → n ≤ (length p.node) → Right (after sig n) n
     unfolding evaluated
     right_all sig l r zero h = r
     right_all sig l r (suc n) h =
@@ -154,12 +151,12 @@ module _ (net : Netlist) (p : Plan) (plan : Planned net p) (ok : Steppable net) 
         (right_more before n (evaluated_length net.kind p.node p.first p.sees 0 sig n ∙ l) (omega arith) (right_all sig l r n (omega arith)))
 
     -- Each node is an input or in the plan.
-    pub right_values : (sig : List ℕ) → length sig ≡ 1536 → Right sig 0 → (v : ℕ) → v < net.nodes → at (after sig p.gates) v ≡ now v
+    pub right_values : (sig : List ℕ) → length sig ≡ 1536 → Right sig 0 → (v : ℕ) → v < net.nodes → at (after sig (length p.node)) v ≡ now v
     right_values sig l r v h = go (ℕ_discrete (at net.kind v) 0)
       where
-        right : Right (after sig p.gates) p.gates
-        right = right_all sig l r p.gates (omega arith)
+        right : Right (after sig (length p.node)) (length p.node)
+        right = right_all sig l r (length p.node) (omega arith)
 
-        go : Dec (at net.kind v ≡ 0) → at (after sig p.gates) v ≡ now v
+        go : Dec (at net.kind v ≡ 0) → at (after sig (length p.node)) v ≡ now v
         go (yes q) = right.inputs v h q
-        go (no q) = let w = plan.every v h q in subst (λ u. at (after sig p.gates) u ≡ now u) w.2 (right.done w.0 w.1)
+        go (no q) = let w = plan.every v h q in subst (λ u. at (after sig (length p.node)) u ≡ now u) w.2 (right.done w.0 w.1)

@@ -1,36 +1,83 @@
 -- The plan of a netlist, from its parts.
+--   worked, filtered_picks    the nodes of an order that are no inputs, as they are picked
 --   planned             the parts make a plan
-use Prim.Native.Nat.{ℕ, suc, ◌-◌, ◌≤◌, ◌<◌}
+use Prim.Native.Nat.{ℕ, zero, suc, ◌-◌, ◌≤◌, ◌<◌}
 use native.Mathlib.Omega.{arith}
+use native.Mathlib.Numerals.{add-one}
 use native.Mathlib.Decide.{ℕ_discrete}
 use mathlib.Core.Path.{◌≡◌, sym, subst, ap, ◌∙◌}
 use mathlib.Core.Logic.{◌⊎◌, inl, inr}
-use mathlib.Core.List.{List}
-use lib.ListN.{length}
+use mathlib.Core.Bool.{cond}
+use mathlib.Core.List.{List, [], ◌∷◌, ◌++◌, append-nil, append_assoc}
+use lib.Dec.{eqb}
+use lib.ListN.{length, length-append, set}
+use lib.Seq.{set-append_seam}
+use borrow.Author.Tests.{eq-eqb, ne_eqb}
+use Rattle.std.specs.Prelude.{Option, Some, None}
 use Rattle.graph.specs.Columns.{at}
 use Rattle.graph.specs.inner.Sort.{Ordered}
 use Rattle.graph.specs.inner.Lists.{Filtered}
-use Rattle.gates.specs.inner.Gates.{Reckons, Table}
+use Rattle.graph.proofs.Fills.{filtered_none, filtered_hit, filtered_miss}
+use Rattle.gates.specs.inner.Gates.{Reckons}
 use Rattle.netlist.specs.declared.Netlist.{Netlist}
 use Rattle.netlist.specs.Theorems.{Fit}
 use Rattle.netlist.proofs.Run.{fit_rows}
 use Rattle.simulate.specs.declared.plan.Plan.{Plan}
+use Rattle.simulate.specs.inner.Picks.{picks}
 use Rattle.simulate.specs.inner.Plan.{signal, NoInput, Planned}
 use Rattle.simulate.proofs.Seen.{Entering}
 
+-- ── The gates ───────────────────────────────────────────────────────────────────────────────
+
+-- A node of the order, where it is no input.
+abbrev pub worked : List ℕ → List ℕ → ℕ → Option ℕ
+worked kind order i = cond (eqb (at kind (at order i)) 0) None (Some (at order i))
+
+module _ (kind order : List ℕ) where
+  abbrev gates : ℕ → List ℕ
+  gates n = picks (worked kind order) n
+
+  -- A list is as well filtered, whatever stands past its items.
+  filtered_before : (n : ℕ) (past : List ℕ) → Filtered (NoInput kind) order n (gates n ++ past) (length (gates n))
+  unfolding picks
+  filtered_before zero past = filtered_none (NoInput kind) order past
+  filtered_before (suc n) past = go (ℕ_discrete (at kind (at order n)) 0) (filtered_before n)
+    where
+      xs : List ℕ
+      xs = gates n
+
+      v : ℕ
+      v = at order n
+
+      -- The item is stored behind the others.
+      stored : set (xs ++ 0 ∷ past) (length xs) v ≡ (xs ++ v ∷ []) ++ past
+      stored = set-append_seam xs 0 past v ∙ sym (append_assoc xs (v ∷ []) past)
+
+      go : Dec (at kind (at order n) ≡ 0) → ((past : List ℕ) → Filtered (NoInput kind) order n (xs ++ past) (length xs))
+          → Filtered (NoInput kind) order (suc n) (gates (suc n) ++ past) (length (gates (suc n)))
+      go (yes q) before = rw (eq-eqb (at kind v) 0 q) (rw add-one at (filtered_miss (NoInput kind) order n (xs ++ past) (length xs) (before past) (λ z. z q)))
+      go (no q) before =
+          rw (ne_eqb (at kind v) 0 q, ← stored, length-append xs (v ∷ []))
+          (rw add-one at (filtered_hit (NoInput kind) order n (xs ++ 0 ∷ past) (length xs) (before (0 ∷ past)) q (omega (arith, length-append xs (0 ∷ past)))))
+
+  pub filtered_picks : {n : ℕ} {list : List ℕ} → list ≡ gates n → Filtered (NoInput kind) order n list (length list)
+  filtered_picks {n} e = rw e (subst (λ xs. Filtered (NoInput kind) order n xs (length (gates n))) (append-nil (gates n)) (filtered_before n []))
+
+-- ── The plan ────────────────────────────────────────────────────────────────────────────────
+
 module _ (net : Netlist) (p : Plan) (f : Fit net) (order : List ℕ) (o : Ordered net.nodes net.edges net.from net.to net.count order)
-    (kept : Filtered (NoInput net.kind) order net.nodes p.node p.gates) where
-  gate_in : (i : ℕ) → i < p.gates → (at p.node i < net.nodes) × ¬ (at net.kind (at p.node i) ≡ 0)
+    (kept : Filtered (NoInput net.kind) order net.nodes p.node (length p.node)) where
+  gate_in : (i : ℕ) → i < length p.node → (at p.node i < net.nodes) × ¬ (at net.kind (at p.node i) ≡ 0)
   gate_in i h = let k = kept.each i h in (subst (λ v. v < net.nodes) k.same (o.nodes_only k.place k.within), k.has)
 
-  gate_every : (v : ℕ) → v < net.nodes → ¬ (at net.kind v ≡ 0) → (i : ℕ) × (i < p.gates) × (at p.node i ≡ v)
+  gate_every : (v : ℕ) → v < net.nodes → ¬ (at net.kind v ≡ 0) → (i : ℕ) × (i < length p.node) × (at p.node i ≡ v)
   gate_every v h n =
       let s = o.every_node v h in
       let t = kept.every s.place s.within (λ z. n (ap (at net.kind) (sym s.holds) ∙ z)) in
       (t.place, t.within, t.holds ∙ s.holds)
 
   -- The source stands before the node in the order; where it is no input, so it does in the list.
-  gate_after : (i e : ℕ) → i < p.gates → e < net.edges → at net.to e ≡ at p.node i → at net.count e ≡ 0
+  gate_after : (i e : ℕ) → i < length p.node → e < net.edges → at net.to e ≡ at p.node i → at net.count e ≡ 0
       → (at net.kind (at net.from e) ≡ 0) ⊎ ((j : ℕ) × (j < i) × (at p.node j ≡ at net.from e))
   gate_after i e h l q z = go (ℕ_discrete (at net.kind (at net.from e)) 0)
     where
@@ -45,8 +92,8 @@ module _ (net : Netlist) (p : Plan) (f : Fit net) (order : List ℕ) (o : Ordere
   pub planned : {ins : List ℕ} → Entering net ins p.first
       → net.edges ≤ length p.sees → ((k : ℕ) → k < net.edges → at p.sees k ≡ signal net (at ins k))
       → ((v : ℕ) → v < net.nodes → Reckons (at net.kind v) (at p.first (suc v) - at p.first v) (at p.truth v))
-      → Table p.index → Planned net p
-  planned {ins} en rows signals truths table = record {
+      → Planned net p
+  planned {ins} en rows signals truths = record {
     few = omega (arith, kept.few, (fit_rows net f).0);
     gate = gate_in;
     every = gate_every;
@@ -55,5 +102,4 @@ module _ (net : Netlist) (p : Plan) (f : Fit net) (order : List ℕ) (o : Ordere
     each = λ k h. (at ins k, en.edge k h, signals k h);
     ins = en.its (signal net) p.sees rows signals;
     truth = truths;
-    table = table;
   }

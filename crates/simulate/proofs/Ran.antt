@@ -15,7 +15,7 @@ use mathlib.Core.Path.{◌≡◌, refl, sym, ap, ap₂, ◌∙◌, subst}
 use mathlib.Core.Bool.{true}
 use mathlib.Core.List.{List, [], ◌++◌, append_assoc, append-nil}
 use lib.ListN.{length, take, drop, length-append, replicate}
-use lib.Seq.{sets, length-sets, ext_get_or, get_or-take, get_or-drop, drop-drop}
+use lib.Seq.{sets, length-sets, ext_get_or, drop-drop}
 use Rattle.theory.proofs.numbers.Stores.{sets_sets}
 use Rattle.theory.proofs.clocks.Seen.{gather_same}
 use Rattle.graph.specs.Columns.{at}
@@ -31,14 +31,14 @@ use Rattle.netlist.proofs.theorems.Refusals.{judged_zero}
 use Rattle.netlist.proofs.theorems.Sound.{reads_value, reads_keeps}
 use Rattle.simulate.specs.declared.touched.Lists.{Lists}
 use Rattle.simulate.specs.declared.plan.Plan.{Plan}
-use Rattle.simulate.specs.Clock.{earlier, inputs, outputs, input_byte, values, output_values, shifted, words_after}
+use Rattle.simulate.specs.Clock.{inputs, outputs, values, output_values, shifted, words_after}
 use Rattle.simulate.specs.Step.{only_bits}
 use Rattle.simulate.specs.Run.{clocks_from}
 use Rattle.simulate.specs.inner.Plan.{Planned}
 use Rattle.simulate.specs.inner.Lists.{Touched}
 use Rattle.simulate.specs.inner.Signals.{with_inputs, with_outputs, with_shifts}
 use Rattle.simulate.specs.inner.Ran.{Steppable, Runnable, words_from, Ran}
-use Rattle.simulate.proofs.Lists.{before_less, bits_at, bits_take, bits_drop}
+use Rattle.simulate.proofs.Lists.{bits_at, bits_take, bits_drop}
 use Rattle.simulate.proofs.Clock.{Fits, fit_words, after_in, after_out, after_length, fits_after, value_input, output_length}
 use Rattle.simulate.proofs.Written.{written_length}
 use Rattle.simulate.proofs.Signals.{entered, entered_at, shown_at, shown_stays, entered_length, entered_bits, outputs_put, shifts_in, shifts_out, shifts_length}
@@ -59,34 +59,32 @@ pub record State : Type 0 where
   pub words : List ℕ
   pub out : List ℕ
 
--- What one clock does, on the vector that begins at `used`: the signals it begins with are evaluated, the outputs go to `given`, and the words move on.
-pub record Clocked (net : Netlist) (p : Plan) (l : Lists) (vectors : List ℕ) (used given : ℕ) (s s' : State) : Type 0 where
+-- What one clock does: the signals it begins with are evaluated, the outputs go to `given`, and the words move on.
+pub record Clocked (net : Netlist) (p : Plan) (l : Lists) (vector : List ℕ) (given : ℕ) (s s' : State) : Type 0 where
   pub sig_rows : length s.sig ≡ 1536
   pub words_rows : length s.words ≡ 1024
   pub begun : List ℕ
-  pub begins : begun ≡ entered l vectors used s.words s.sig
-  pub evaluates : s'.sig ≡ evaluated net.kind p.node p.first p.sees 0 p.gates begun
-  pub puts : s'.out ≡ with_outputs l.output l.outs s'.sig given s.out
-  pub moves : s'.words ≡ with_shifts l.reg l.regs net.from net.count s'.sig s.words
+  pub begins : begun ≡ entered l vector s.words s.sig
+  pub evaluates : s'.sig ≡ evaluated net.kind p.node p.first p.sees 0 (length p.node) begun
+  pub puts : s'.out ≡ with_outputs l.outputs (length l.outputs) s'.sig given s.out
+  pub moves : s'.words ≡ with_shifts l.registers (length l.registers) net.from net.count s'.sig s.words
 
 module _ (net : Netlist) (p : Plan) (plan : Planned net p) (l : Lists) (lists : Touched net l) (ok : Steppable net) (vector : List ℕ)
-    {vectors : List ℕ} {used given : ℕ} {s s' : State}
-    (bytes : (v : ℕ) → v < net.nodes → at net.kind v ≡ 0 → at vectors (used + earlier net 0 v) ≡ input_byte net vector v)
-    (c : Clocked net p l vectors used given s s') where
+    {given : ℕ} {s s' : State} (c : Clocked net p l vector given s s') where
   size : length c.begun ≡ 1536
-  size = ap length c.begins ∙ entered_length l vectors used s.words s.sig ∙ c.sig_rows
+  size = ap length c.begins ∙ entered_length l vector s.words s.sig ∙ c.sig_rows
 
   -- The inputs' places are not the registers'.
-  starts : Right net p plan ok s.words vector (entered l vectors used s.words s.sig) 0
+  starts : Right net p plan ok s.words vector (entered l vector s.words s.sig) 0
   starts =
       let rows = fit_rows net ok.fit in
-      let put = with_inputs l.input l.ins vectors used s.sig in record {
+      let put = with_inputs l.inputs (length l.inputs) vector s.sig in record {
         inputs = λ v h q.
             shown_stays net l lists s.words put v (omega (arith, rows.0))
-            ∙ entered_at net l lists vectors used s.sig (omega (arith, rows.0, c.sig_rows)) v h q
-            ∙ bytes v h q ∙ sym (value_input net (fit_wired net ok.fit) ok.no_loop s.words vector v h q);
+            ∙ entered_at net l lists vector s.sig (omega (arith, rows.0, c.sig_rows)) v h q
+            ∙ sym (value_input net (fit_wired net ok.fit) ok.no_loop s.words vector v h q);
         done = λ i h. absurd (let y : ⊥ = omega arith in y);
-        shows = shown_at net l lists s.words put (omega (arith, rows.1, c.sig_rows, written_length (at l.input) (λ i. at vectors (used + i)) l.ins s.sig));
+        shows = shown_at net l lists s.words put (omega (arith, rows.1, c.sig_rows, written_length (at l.inputs) (at vector) (length l.inputs) s.sig));
       }
 
   ends : (v : ℕ) → v < net.nodes → at s'.sig v ≡ values net s.words vector v
@@ -117,12 +115,12 @@ module _ (net : Netlist) (p : Plan) (plan : Planned net p) (l : Lists) (lists : 
           ∙ sym (after_out net s.words vector e (omega arith))
 
   pub clock_size : length s'.sig ≡ 1536
-  clock_size = ap length c.evaluates ∙ evaluated_length net.kind p.node p.first p.sees 0 c.begun p.gates ∙ size
+  clock_size = ap length c.evaluates ∙ evaluated_length net.kind p.node p.first p.sees 0 c.begun (length p.node) ∙ size
 
-  pub clock_bits : AllBits vectors → AllBits s.sig → AllBits s'.sig
+  pub clock_bits : AllBits vector → AllBits s.sig → AllBits s'.sig
   clock_bits v b =
-      subst AllBits (sym c.evaluates) (evaluated_bits net.kind p.node p.first p.sees 0 c.begun p.gates
-      (subst AllBits (sym c.begins) (entered_bits l vectors used s.words s.sig v b)))
+      subst AllBits (sym c.evaluates) (evaluated_bits net.kind p.node p.first p.sees 0 c.begun (length p.node)
+      (subst AllBits (sym c.begins) (entered_bits l vector s.words s.sig v b)))
 
 -- ── The loop ────────────────────────────────────────────────────────────────────────────────
 
@@ -149,7 +147,7 @@ bits_none k = omega (arith, zeros_at 1536 k)
 part_in : (t n k : ℕ) → t < n → t * k + k ≤ n * k
 part_in t n k h = omega (arith, mul-le-mul_right k h, suc-mul t k)
 
-module _ (net : Netlist) (n : ℕ) (words₀ vectors old : List ℕ) (ask : Runnable net n words₀ vectors old) where
+module _ (net : Netlist) (ok : Steppable net) (n : ℕ) (words₀ vectors old : List ℕ) (ask : Runnable net n words₀ vectors old) where
   pub running_start : length words₀ ≡ 1024 → (sig : List ℕ) → length sig ≡ 1536 → AllBits sig
       → Running net n words₀ vectors old 0 0 0 (record { sig = sig; words = words₀; out = old })
   running_start l sig size b = record {
@@ -185,34 +183,31 @@ module _ (net : Netlist) (n : ℕ) (words₀ vectors old : List ℕ) (ask : Runn
         let o : given + outputs net ≤ length old = omega (arith, part_in t n (outputs net) h, r.outputs_given, ask.room) in
         (omega (arith, part_in t n (inputs net) h, r.vectors_used, ask.whole), o, omega (arith, ap length r.puts, length-sets old 0 r.done))
 
-    -- A clock begins: its signals are bits.
-    pub begun_bits : (l : Lists) (begun : List ℕ) → begun ≡ entered l vectors used s.words s.sig → AllBits begun
-    begun_bits l begun e = subst AllBits (sym e) (entered_bits l vectors used s.words s.sig (λ k. bits_at vectors k ask.vector_bits) r.sig_bits)
-
-    abbrev vector : List ℕ
+    abbrev pub vector : List ℕ
     vector = take (inputs net) (drop used vectors)
 
     vector_bits : only_bits vector ≡ true
     vector_bits = bits_take (inputs net) (drop used vectors) (bits_drop used vectors ask.vector_bits)
 
-    bytes : (v : ℕ) → v < net.nodes → at net.kind v ≡ 0 → at vectors (used + earlier net 0 v) ≡ input_byte net vector v
-    bytes v l q = sym (get_or-take (inputs net) (drop used vectors) (earlier net 0 v) 0 (before_less net 0 v net.nodes q l) ∙ get_or-drop used vectors (earlier net 0 v) 0)
+    -- A clock begins: its signals are bits.
+    pub begun_bits : (l : Lists) (begun : List ℕ) → begun ≡ entered l vector s.words s.sig → AllBits begun
+    begun_bits l begun e = subst AllBits (sym e) (entered_bits l vector s.words s.sig (λ k. bits_at vector k vector_bits) r.sig_bits)
 
     module _ (p : Plan) (plan : Planned net p) (l : Lists) (lists : Touched net l) where
-      pub running_turn : (used' given' : ℕ) → used' ≡ used + inputs net → given' ≡ given + outputs net → (s' : State) → Clocked net p l vectors used given s s'
+      pub running_turn : (used' given' : ℕ) → used' ≡ used + inputs net → given' ≡ given + outputs net → (s' : State) → Clocked net p l vector given s s'
           → Running net n words₀ vectors old (t + 1) used' given' s'
       unfolding clocks_from words_from
       running_turn used' given' i o s' c = record {
         low = omega arith;
         vectors_used = omega (arith, r.vectors_used, ap (λ k. k * inputs net) (add-one t), suc-mul t (inputs net));
         outputs_given = omega (arith, r.outputs_given, ap (λ k. k * outputs net) (add-one t), suc-mul t (outputs net));
-        sig_size = clock_size net p plan l lists ok vector bytes c;
-        sig_bits = clock_bits net p plan l lists ok vector bytes c (λ k. bits_at vectors k ask.vector_bits) r.sig_bits;
-        words_size = clock_words net p plan l lists ok vector bytes c;
+        sig_size = clock_size net p plan l lists ok vector c;
+        sig_bits = clock_bits net p plan l lists ok vector c (λ k. bits_at vector k vector_bits) r.sig_bits;
+        words_size = clock_words net p plan l lists ok vector c;
         fits = subst (Fits net) (sym leaves) (fits_after net (fit_wired net ok.fit) ok.no_loop s.words vector vector_bits r.fits);
         done = r.done ++ put;
         done_size = length-append r.done put ∙ omega (arith, r.done_size, output_length net s.words vector);
-        puts = clock_puts net p plan l lists ok vector bytes c ∙ ap (λ xs. sets xs given put) r.puts ∙ sets_sets r.done put old 0 given (omega (arith, r.done_size));
+        puts = clock_puts net p plan l lists ok vector c ∙ ap (λ xs. sets xs given put) r.puts ∙ sets_sets r.done put old 0 given (omega (arith, r.done_size));
         goes =
             append_assoc r.done put _
             ∙ ap (λ l. r.done ++ l) (ap₂ (λ w l. put ++ clocks_from net (n - (t + 1)) w l) leaves (sym rest) ∙ ap (λ k. clocks_from net k s.words (drop used vectors)) one)
@@ -220,14 +215,11 @@ module _ (net : Netlist) (n : ℕ) (words₀ vectors old : List ℕ) (ask : Runn
         moves = ap₂ (λ w l. words_from net (n - (t + 1)) w l) leaves (sym rest) ∙ ap (λ k. words_from net k s.words (drop used vectors)) one ∙ r.moves;
       }
         where
-          ok : Steppable net
-          ok = ask.steppable
-
           put : List ℕ
           put = output_values net s.words vector
 
           leaves : s'.words ≡ words_after net s.words vector
-          leaves = clock_leaves net p plan l lists ok vector bytes c
+          leaves = clock_leaves net p plan l lists ok vector c
 
           rest : drop (inputs net) (drop used vectors) ≡ drop used' vectors
           rest = drop-drop (inputs net) used vectors ∙ ap (λ k. drop k vectors) (sym i)

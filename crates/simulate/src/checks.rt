@@ -1,70 +1,53 @@
 // Rule 13, and how many inputs and outputs there are.
-// Required: a netlist that passed the rules, which `run` and `step` check first.
-ghost use Rattle.std.specs.Prelude.{◌≡◌, ◌≤◌, length};
-ghost use Rattle.netlist.specs.Theorems.{Fit};
+ghost use Rattle.std.specs.Prelude.{◌≡◌, ◌∷◌, [], ◌<◌, ◌≤◌, ◌%◌, eqb, length};
+ghost use Rattle.rules.specs.Kinds.{number_of};
+ghost use Rattle.rules.specs.Rules.{every};
 ghost use Rattle.simulate.specs.Clock.{earlier};
 ghost use Rattle.simulate.specs.Step.{only_bits, words_fit, step_fits};
 
-use netlist::Netlist;
-use rules::bits_fit;
+use crate::circuit::Circuit;
+use rules::{Kind, bits_fit};
 
-// How many nodes have the gate kind k.
-pub fn count_kind(net: Netlist, k: u8) -> usize
-    requires { net.nodes ≤ 512 }
-    ensures { result ≡ earlier net k net.nodes }
+// How many nodes have this gate kind.
+pub fn count_kind(circuit: Circuit<'_>, kind: Kind) -> usize
+    ensures { result ≡ earlier circuit.entry.net.now (number_of kind) circuit.entry.net.now.nodes }
 {
-    let nodes = net.nodes as usize;
-    let mut n = 0;
-    let mut v = 0;
-    while v < nodes {
-        if net.kind[v] == k {
-            n += 1;
-        }
-        v += 1;
-    }
-    n
+    let number = u8::from(kind);
+    let kinds = circuit.net.kind.iter().take(usize::from(circuit.net.nodes));
+    kinds.filter(|k| **k == number).count()
 }
 
 // Whether no byte is above 1.
-pub fn are_bits(vector: &[u8]) -> bool
+fn are_bits(vector: &[u8]) -> bool
     ensures { result ≡ only_bits vector.now }
 {
-    let mut i = 0;
-    while i < vector.len() {
-        if 1 < vector[i] {
-            return false;
-        }
-        i += 1;
-    }
-    true
+    vector.iter().all(|byte| *byte <= 1)
 }
 
 // Whether no machine word has a bit at or above its edge's count.
-fn words_fit(net: Netlist, words: &[u32]) -> bool
-    requires { Fit net × (net.edges ≤ length words.now) }
-    ensures { result ≡ words_fit net words.now net.edges }
+fn words_fit(circuit: Circuit<'_>, words: &[u32]) -> bool
+    requires { circuit.net.now.edges ≤ length words.now }
+    ensures { result ≡ words_fit circuit.entry.net.now words.now circuit.entry.net.now.edges }
 {
-    let edges = net.edges as usize;
-    let mut e = 0;
-    while e < edges {
-        if !bits_fit(words[e], net.count[e]) {
-            return false;
-        }
-        e += 1;
-    }
-    true
+    let words = &words[..usize::from(circuit.net.edges)];
+    let mut beside = words.iter().zip(&circuit.net.count);
+    beside.all(|(word, count)| bits_fit(*word, *count))
 }
 
 // Rule 13 of stepping: one vector, of bits, and words that fit.
-pub fn step_fits(net: Netlist, words: &[u32], vector: &[u8]) -> bool
-    requires { Fit net × (net.edges ≤ length words.now) }
-    ensures { result ≡ step_fits net words.now vector.now }
+pub fn step_fits(circuit: Circuit<'_>, words: &[u32], vector: &[u8]) -> bool
+    requires { circuit.net.now.edges ≤ length words.now }
+    ensures { result ≡ step_fits circuit.entry.net.now words.now vector.now }
 {
-    if vector.len() != count_kind(net, 0) {
-        return false;
-    }
-    if !are_bits(vector) {
-        return false;
-    }
-    words_fit(net, words)
+    vector.len() == count_kind(circuit, Kind::Input)
+        && are_bits(vector)
+        && words_fit(circuit, words)
+}
+
+// Rule 13 of running: whole vectors, of bits.
+pub fn run_fits(vectors: &[u8], inputs: usize) -> bool
+    requires { 0 < inputs }
+    ensures { result ≡ every (eqb (length vectors.now % inputs) 0 ∷ only_bits vectors.now ∷ []) }
+{
+    vectors.len() % inputs == 0 && are_bits(vectors)
 }

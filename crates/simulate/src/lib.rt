@@ -2,14 +2,15 @@
 #![tactic(auto)]
 
 mod checks;
+mod circuit;
 mod clocks;
+mod items;
 mod plan;
 mod running;
 mod stepping;
 mod touched;
 
 use graph::EDGES;
-use netlist::Answer;
 pub use running::run;
 pub use stepping::{step, step_in_place};
 
@@ -20,8 +21,9 @@ pub struct Machine {
     pub words: [u32; EDGES],
 }
 
+// What a step leaves: the machine after it, and how many outputs it put.
 #[derive(Clone, Copy)]
 pub struct Stepped {
     pub machine: Machine,
-    pub answer: Answer,
+    pub outputs: usize,
 }

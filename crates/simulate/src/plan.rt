@@ -1,50 +1,58 @@
 // The evaluation plan, made once per netlist.
-// Required: a netlist that passed the rules, which `run` and `step` check first.
-ghost use Rattle.std.specs.Prelude.{◌≡◌, cond, ℕ, ◌+◌, ◌<◌, ◌≤◌, eqb, length};
+ghost use Rattle.std.specs.Prelude.{◌≡◌, cond, List, ℕ, ◌+◌, ◌<◌, ◌≤◌, eqb, length};
 ghost use Rattle.graph.specs.Columns.{at};
 ghost use Rattle.graph.specs.inner.Lists.{Filtered};
-ghost use Rattle.netlist.specs.Theorems.{Fit};
-ghost use Rattle.netlist.specs.Circuit.{LoopIn};
-ghost use Rattle.netlist.specs.Read.{FanInsFit};
+ghost use Rattle.gates.specs.inner.Gates.{evaluated, Evaluable, Truths};
 ghost use Rattle.simulate.specs.inner.Plan.{signal, NoInput, Planned};
 
-use gates::{index_table, put_truths};
-use graph::{EDGES, NODES, evaluation_order, sort_by};
-use netlist::Netlist;
+use crate::circuit::Circuit;
+use crate::items::Items;
+use gates::{GateList, IndexTable, evaluate, put_truths};
+use graph::{EDGES, NODES, Wires, edges_by_node, evaluation_order};
+use rules::Kind;
 
 // What the edges show from their registers comes after the values of the nodes.
 const SHOWN: u16 = NODES as u16;
 
-// gates: how many nodes are no inputs; node: these, in evaluation order; first: where the signals that node v sees begin, those of node v + 1 after
-//   them;
+// node: the nodes that are no inputs, in evaluation order; first: where the signals that node v sees begin, those of node v + 1 after them;
 // sees: the signals, in rising order of the edges; truth: its truth word; index: the table that this is read by.
-#[derive(Clone, Copy)]
+#[derive(Drop)]
 pub struct Plan {
-    pub gates: usize,
-    pub node: [u16; NODES],
+    pub node: Items<NODES>,
     pub first: [u16; NODES + 1],
     pub sees: [u16; EDGES],
     pub truth: [u16; NODES],
-    pub index: [u8; 264],
+    pub index: IndexTable,
 }
 
-// The nodes of an order that are no inputs, in the same order. How many.
-fn gates_of(order: &[u16], kind: &[u8], nodes: usize, list: &mut [u16]) -> usize
-    requires nodes_in_bounds { (nodes ≤ length order.now) × (nodes ≤ length kind.now) × (nodes ≤ length list.old) }
-    requires by_index { (p : ℕ) → p < nodes → at order.now p < nodes }
-    ensures { Filtered (NoInput kind.now) order.now nodes list.new result }
-{
-    let mut n = 0;
-    let mut i = 0;
-    while i < nodes {
-        let v = order[i];
-        if kind[v as usize] != 0 {
-            list[n] = v;
-            n += 1;
-        }
-        i += 1;
+impl Plan {
+    // One value for each node that is no input.
+    pub fn evaluate(&self, sig: &mut [u8])
+        requires { Evaluable self.now.node self.now.truth self.now.first self.now.sees (length self.now.node) 0 sig.old }
+        ensures { (kind : List ℕ) → Truths kind self.now.node self.now.truth self.now.first (length self.now.node)
+            → sig.new ≡ evaluated kind self.now.node self.now.first self.now.sees 0 (length self.now.node) sig.old }
+    {
+        let gates = GateList {
+            node: self.node.as_slice(),
+            truth: &self.truth,
+            first: &self.first,
+            list: &self.sees,
+        };
+        evaluate(gates, &self.index, 0, sig);
     }
-    n
+}
+
+// The nodes of an order that are no inputs, in the same order.
+fn gates_of(order: &[u16], circuit: Circuit<'_>) -> Items<NODES>
+    requires nodes_in_bounds { circuit.net.now.nodes ≤ length order.now }
+    requires by_index { (p : ℕ) → p < circuit.net.now.nodes → at order.now p < circuit.net.now.nodes }
+    ensures { Filtered (NoInput circuit.entry.net.now.kind) order.now circuit.entry.net.now.nodes result (length result) }
+{
+    let net = circuit.net;
+    Items::picked(net.nodes, |place| {
+        let v = order[place as usize];
+        (net.kind[v as usize] != Kind::Input as u8).then_some(v)
+    })
 }
 
 // Where the signal of edge e stands: at its source, or with its own register.
@@ -56,45 +64,41 @@ fn signal_of(source: u16, count: u8, e: u16) -> u16
 }
 
 // The signals of the edges, in the order in which these stand in `ins`.
-fn signals_of(net: Netlist, ins: &[u16]) -> [u16; EDGES]
-    requires { (net.edges ≤ 1024) × (net.edges ≤ length ins.now) × ((k : ℕ) → k < net.edges → at ins.now k < net.edges) }
-    ensures { (k : ℕ) → k < net.edges → at result k ≡ signal net (at ins.now k) }
+fn signals_of(circuit: Circuit<'_>, ins: &[u16]) -> [u16; EDGES]
+    requires { (circuit.net.now.edges ≤ length ins.now) × ((k : ℕ) → k < circuit.net.now.edges → at ins.now k < circuit.net.now.edges) }
+    ensures { (k : ℕ) → k < circuit.entry.net.now.edges → at result k ≡ signal circuit.entry.net.now (at ins.now k) }
 {
-    let edges = net.edges as usize;
+    let net = circuit.net;
     let mut sees = [0u16; EDGES];
-    let mut k = 0;
-    while k < edges {
-        let e = ins[k] as usize;
-        sees[k] = signal_of(net.from[e], net.count[e], ins[k]);
-        k += 1;
+    for k in 0..net.edges as usize {
+        let e = ins[k];
+        sees[k] = signal_of(net.from[e as usize], net.count[e as usize], e);
     }
     sees
 }
 
-// The plan of a netlist that keeps the rules of its lines, and the rules 5 and 6.
-pub fn plan_of(net: Netlist) -> Plan
-    requires fit { Fit net }
-    requires fan_ins_fit { FanInsFit net }
-    requires not_loop_in { ¬ LoopIn net }
-    ensures { Planned net result }
+// The plan of a netlist.
+pub fn plan_of(circuit: Circuit<'_>) -> Plan
+    ensures { Planned circuit.entry.net.now result }
 {
+    let net = circuit.net;
     let nodes = net.nodes as usize;
     let edges = net.edges as usize;
-    let order = evaluation_order(&net.from, &net.to, &net.count, nodes, edges);
-    let mut node = [0u16; NODES];
-    let gates = gates_of(&order, &net.kind, nodes, &mut node);
-    let mut first = [0u16; NODES + 1];
-    let mut ins = [0u16; EDGES];
-    sort_by(&net.to, edges, nodes, &mut ins, &mut first);
-    let sees = signals_of(net, &ins);
+    let wires = Wires {
+        nodes,
+        edges,
+        from: &net.from,
+        to: &net.to,
+    };
+    let order = evaluation_order(wires, &net.count);
+    let ins = edges_by_node(&net.to, nodes, edges);
     let mut truth = [0u16; NODES];
-    put_truths(&net.kind, &first, nodes, &mut truth);
+    put_truths(&net.kind, &ins.begin, nodes, &mut truth);
     Plan {
-        gates,
-        node,
-        first,
-        sees,
+        node: gates_of(&order, circuit),
+        first: ins.begin,
+        sees: signals_of(circuit, &ins.list),
         truth,
-        index: index_table(),
+        index: IndexTable::new(),
     }
 }

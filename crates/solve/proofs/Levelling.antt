@@ -1,38 +1,22 @@
 -- Level by level: the stack of cells that wait, and where the levels begin.
---   waiting_one, waiting_more, waiting_less   the stack: its first cell, a push, a pop
---   begun_none, begun_kept, begun_more        where the levels begin
---   level_turn          a level is done
+--   waiting_more, waiting_less     the stack: a push, a pop
+--   begun_here, begun_more         where the levels begin
 --   ranked              all cells have numbers
 use Prim.Native.Nat.{ℕ, suc, ◌+◌, ◌-◌, ◌≤◌, ◌<◌}
 use native.Mathlib.Omega.{arith}
 use native.Mathlib.Decide.{ℕ_discrete, dec_lt}
-use mathlib.Core.Path.{◌≡◌, sym, subst, ap, ◌∙◌}
-use mathlib.Core.Logic.{⊎_elim}
+use mathlib.Core.Path.{◌≡◌, ap, ◌∙◌}
 use mathlib.Core.List.{List}
 use lib.ListN.{length, set}
 use lib.Seq.{get_or-set_same, get_or-set_other}
 use Rattle.graph.specs.Columns.{at}
 use Rattle.graph.proofs.Fills.{fill_with}
 use Rattle.solve.specs.inner.Parts.{Spans}
-use Rattle.solve.specs.inner.Numbers.{Layers, Numbered, Extended, LevelNumbered, Waiting, LevelsBegun, Ranked}
+use Rattle.solve.specs.inner.Numbers.{Layers, Numbered, Waiting, LevelsBegun, Ranked}
 use Rattle.solve.proofs.Spanning.{reach_bit}
-use Rattle.solve.proofs.Numbering.{numbered_all, numbered_level}
+use Rattle.solve.proofs.Numbering.{numbered_all}
 
 -- ── The stack ───────────────────────────────────────────────────────────────────────────────
-
-pub waiting_one : {m i : ℕ} {span id : List ℕ} (stack : List ℕ) → 0 < length stack → at span i ≡ m → at id i ≡ 12288 → Waiting m 1 i span id (set stack 0 i)
-waiting_one {m} {i} {span} {id} stack rows own free = record {
-  bottom = here;
-  level = λ j h. ap (at span) (first j h) ∙ own;
-  waits = λ j h. ap (at id) (first j h) ∙ free;
-  falls = λ a b l h. let z : a ≡ b = omega arith in omega (arith, ap (at (set stack 0 i)) z);
-}
-  where
-    here : at (set stack 0 i) 0 ≡ i
-    here = get_or-set_same stack 0 i 0 rows
-
-    first : (j : ℕ) → j < 1 → at (set stack 0 i) j ≡ i
-    first j h = let z : j ≡ 0 = omega arith in ap (at (set stack 0 i)) z ∙ here
 
 module _ {m h i : ℕ} {span id stack : List ℕ} (s : Waiting m h i span id stack) (some : 0 < h) where
   -- A cell that the top needs goes on top of it.
@@ -69,21 +53,7 @@ module _ {m h i : ℕ} {span id stack : List ℕ} (s : Waiting m h i span id sta
 
 -- ── Levels ──────────────────────────────────────────────────────────────────────────────────
 
-pub begun_none : {n : ℕ} {span code levels : List ℕ} → LevelsBegun 0 n span code levels
-begun_none = record {
-  within = λ a h. absurd (let z : ⊥ = omega arith in z);
-  climbs = λ a h. absurd (let z : ⊥ = omega arith in z);
-  low = λ a q h l. absurd (let z : ⊥ = omega arith in z);
-}
-
 module _ {m n : ℕ} {span code levels : List ℕ} (s : LevelsBegun m n span code levels) where
-  pub begun_kept : {r : ℕ} {codes : List ℕ} → n ≤ r → ((q : ℕ) → q < n → at codes q ≡ at code q) → LevelsBegun m r span codes levels
-  begun_kept l kept = record {
-    within = λ a h. omega (arith, s.within a h);
-    climbs = s.climbs;
-    low = λ a q h o. subst (λ x. at span x < a) (sym (kept q (omega (arith, s.within a h)))) (s.low a q h o);
-  }
-
   module _ (rows : m < length levels) (below : (q : ℕ) → q < n → at span (at code q) < m) where
     pub begun_here : at (set levels m n) m ≡ n
     begun_here = get_or-set_same levels m n 0 rows
@@ -110,16 +80,6 @@ module _ {m n : ℕ} {span code levels : List ℕ} (s : LevelsBegun m n span cod
       low = λ a q h l. low_more a q (ℕ_discrete a m) h l;
     }
 
--- A level is done: its cells and those before have their numbers.
-pub level_turn : {L : Layers} {m n r : ℕ} {old id code levels : List ℕ} → L.cells ≤ 12288 → m < length levels → ((q : ℕ) → q < n → at L.span (at old q) < m)
-    → LevelsBegun m n L.span old levels → Extended L m n r old id code → LevelNumbered L m r id
-    → Numbered L (m + 1) r id code × LevelsBegun (m + 1) r L.span code (set levels m n) × ((q : ℕ) → q < r → at L.span (at code q) < m + 1)
-level_turn few rows below b x all = (
-  numbered_level few x.numbered all,
-  begun_kept (begun_more b rows below) x.more x.kept,
-  λ q h. omega (arith, x.numbered.level q h),
-)
-
 pub ranked : {k m n : ℕ} {L : Layers} {id code levels : List ℕ} → L.cells ≤ 12288 → Spans k L.first L.operand L.span L.cells → m ≡ k + 1
     → Numbered L m n id code → LevelsBegun (m + 1) n L.span code levels → at levels m ≡ n → Ranked L.cells k L.first L.operand id code levels
 ranked {k} {m} {n} {L} {id} {code} {levels} few t e s b last = record {
@@ -128,7 +88,7 @@ ranked {k} {m} {n} {L} {id} {code} {levels} few t e s b last = record {
     code_rows = s.code_rows;
     cell = λ q h. s.cell q (omega (arith, all));
     number = λ q h. s.number q (omega (arith, all));
-    each = λ i h. ⊎_elim (λ o. absurd (let z : ⊥ = omega (arith, given i h, s.few) in z)) (λ o. (omega (arith, s.few), o.1)) (s.each i h);
+    each = λ i h. let o = s.each i h (λ z. omega (arith, given i h, s.few)) in (omega (arith, o.0, s.few), o.1);
   };
   sources = λ i j h. s.sources i j h (given i h);
   none = go (dec_lt 0 (at levels 0));

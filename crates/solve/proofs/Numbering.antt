@@ -1,26 +1,21 @@
 -- New numbers, cell by cell.
 --   layered             the spans are levels
---   numbered_none       no number is given yet
 --   numbered_room       while a cell has no number, fewer are given than there are cells
 --   numbered_more       one number more: for a cell of level m, after all that it needs
---   extended_one        so the numbers given before stay
 --   numbered_all        when every cell has a number, there are as many numbers as cells
---   numbered_level      all cells of a level have numbers
 --   numbered_ready      nothing is missing that a cell needs
---   extended_same, extended_more     the numbers that were given stay, also when more are given twice
---   extended_number     a cell that had a number has one
 use Prim.Native.Nat.{ℕ, zero, suc, ◌+◌, ◌-◌, ◌≤◌, ◌<◌}
 use native.Mathlib.Omega.{arith}
 use native.Mathlib.Decide.{ℕ_discrete, dec_lt}
-use mathlib.Core.Path.{◌≡◌, refl, sym, subst, ap, ◌∙◌}
-use mathlib.Core.Logic.{◌⊎◌, inl, inr, ⊎_elim}
+use mathlib.Core.Path.{◌≡◌, sym, subst, ap, ◌∙◌}
+use Rattle.std.proofs.Common.{None}
 use mathlib.Core.List.{List}
 use lib.ListN.{length, set, length-set}
 use lib.Seq.{get_or-set_same, get_or-set_other}
 use Rattle.theory.proofs.numbers.Pigeon.{no_injection, cons}
 use Rattle.graph.specs.Columns.{at}
 use Rattle.solve.specs.inner.Parts.{OperandsWired, Spans}
-use Rattle.solve.specs.inner.Numbers.{Layers, layers_of, Layered, Missing, Numbered, Extended, LevelNumbered}
+use Rattle.solve.specs.inner.Numbers.{Layers, layers_of, Layered, Missing, Numbered}
 use Rattle.solve.proofs.Spanning.{reach_cell}
 
 pub layered : {cells k : ℕ} {first operand span : List ℕ} → OperandsWired cells first operand → cells ≤ length span
@@ -32,20 +27,6 @@ layered {cells} {k} {first} {operand} {span} w rows s = record {
 }
 
 -- ── One number more ─────────────────────────────────────────────────────────────────────────
-
-pub numbered_none : {L : Layers} {id code : List ℕ} → L.cells ≤ length id → L.cells ≤ length code
-    → ((i : ℕ) → i < L.cells → at id i ≡ 12288) → Numbered L 0 0 id code
-numbered_none rows room none = record {
-  few = omega arith;
-  id_rows = rows;
-  code_rows = room;
-  cell = λ q h. absurd (let z : ⊥ = omega arith in z);
-  number = λ q h. absurd (let z : ⊥ = omega arith in z);
-  each = λ i h. inl (none i h);
-  sources = λ i j h l a b o. absurd (let z : ⊥ = omega arith in z);
-  lower = λ i h l. absurd (let z : ⊥ = omega arith in z);
-  level = λ q h. absurd (let z : ⊥ = omega arith in z);
-}
 
 module _ {L : Layers} {m n : ℕ} {id code : List ℕ} (few : L.cells ≤ 12288) (s : Numbered L m n id code) where
   -- The cells of the numbers and this one are all different.
@@ -77,7 +58,7 @@ module _ {L : Layers} {m n : ℕ} {id code : List ℕ} (few : L.cells ≤ 12288)
   numbered_all all = go (dec_lt n L.cells)
     where
       back : (i : ℕ) → i < L.cells → at code (at id i) ≡ i
-      back i h = ⊎_elim (λ e. absurd (let z : ⊥ = omega (arith, all i h, s.few) in z)) (λ e. e.1) (s.each i h)
+      back i h = (s.each i h (λ e. omega (arith, all i h, s.few))).1
 
       go : Dec (n < L.cells) → n ≡ L.cells
       go (yes w) =
@@ -87,7 +68,7 @@ module _ {L : Layers} {m n : ℕ} {id code : List ℕ} (few : L.cells ≤ 12288)
 
   -- A cell's number is given already, or is none.
   pub numbered_given : (i : ℕ) → i < L.cells → ¬ (at id i ≡ 12288) → at id i < n
-  numbered_given i h o = ⊎_elim (λ e. absurd (o e)) (λ e. e.0) (s.each i h)
+  numbered_given i h o = (s.each i h o).0
 
   module _ {i : ℕ} (w : OperandsWired L.cells L.first L.operand) (h : i < L.cells) (own : at L.span i ≡ m) (free : at id i ≡ 12288)
       (ready : (j : ℕ) → at L.first i ≤ j → j < at L.first (suc i) → 32 ≤ at L.operand j → at id (at L.operand j - 32) < n) where
@@ -120,16 +101,14 @@ module _ {L : Layers} {m n : ℕ} {id code : List ℕ} (few : L.cells ≤ 12288)
         let b = s.number q (omega arith) in
         ap (at (set id i n)) (code_other q e) ∙ id_other (at code q) (not_this (at code q) (omega (arith, b))) ∙ b
 
-    each_more : (j : ℕ) → Dec (j ≡ i) → j < L.cells → (at (set id i n) j ≡ 12288) ⊎ ((at (set id i n) j < n + 1) × (at (set code n i) (at (set id i n) j) ≡ j))
-    each_more j (yes e) l =
+    each_more : (j : ℕ) → Dec (j ≡ i) → j < L.cells → ¬ (at (set id i n) j ≡ 12288) → (at (set id i n) j < n + 1) × (at (set code n i) (at (set id i n) j) ≡ j)
+    each_more j (yes e) l o =
         let z = ap (at (set id i n)) e ∙ id_here in
-        inr (omega (arith, z), ap (at (set code n i)) z ∙ code_here ∙ sym e)
-    each_more j (no e) l =
+        (omega (arith, z), ap (at (set code n i)) z ∙ code_here ∙ sym e)
+    each_more j (no e) l o =
         let z = id_other j e in
-        ⊎_elim
-        (λ (o : at id j ≡ 12288). inl (z ∙ o))
-        (λ (o : (at id j < n) × (at code (at id j) ≡ j)). inr (omega (arith, z), ap (at (set code n i)) z ∙ code_other (at id j) (λ y. omega arith) ∙ o.1))
-        (s.each j l)
+        let g = s.each j l (λ y. o (z ∙ y)) in
+        (omega (arith, z, g.0), ap (at (set code n i)) z ∙ code_other (at id j) (λ y. omega (arith, g.0)) ∙ g.1)
 
     sources_more : (c j : ℕ) → Dec (c ≡ i) → c < L.cells → at (set id i n) c < n + 1 → at L.first c ≤ j → j < at L.first (suc c) → 32 ≤ at L.operand j
         → at (set id i n) (at L.operand j - 32) < at (set id i n) c
@@ -159,64 +138,20 @@ module _ {L : Layers} {m n : ℕ} {id code : List ℕ} (few : L.cells ≤ 12288)
       code_rows = omega (arith, length-set code n i, s.code_rows);
       cell = λ q l. cell_more q (ℕ_discrete q n) l;
       number = λ q l. number_more q (ℕ_discrete q n) l;
-      each = λ j l. each_more j (ℕ_discrete j i) l;
+      each = λ j l o. each_more j (ℕ_discrete j i) l o;
       sources = λ c j l o a b big. sources_more c j (ℕ_discrete c i) l o a b big;
       lower = λ c l o. lower_more c (ℕ_discrete c i) l o;
       level = λ q l. level_more q (ℕ_discrete q n) l;
     }
 
-    -- From any fewer numbers.
-    pub extended_one : {a : ℕ} {old : List ℕ} → a ≤ n → ((q : ℕ) → q < a → at code q ≡ at old q)
-        → Extended L m a (n + 1) old (set id i n) (set code n i)
-    extended_one l kept = record { numbered = numbered_more; more = omega arith; kept = λ q o. code_other q (λ z. omega arith) ∙ kept q o }
-
-  pub numbered_level : LevelNumbered L m n id → Numbered L (m + 1) n id code
-  numbered_level all = record {
-    few = s.few;
-    id_rows = s.id_rows;
-    code_rows = s.code_rows;
-    cell = s.cell;
-    number = s.number;
-    each = s.each;
-    sources = s.sources;
-    lower = λ i h l. go i h l (ℕ_discrete (at L.span i) m);
-    level = λ q h. omega (arith, s.level q h);
-  }
-    where
-      go : (i : ℕ) → i < L.cells → at L.span i < m + 1 → Dec (at L.span i ≡ m) → at id i < n
-      go i h l (yes e) = all i h e
-      go i h l (no e) = s.lower i h (omega arith)
-
   -- Cells of lower levels have their numbers, and of this one none is missing.
-  pub numbered_ready : {i r : ℕ} → Layered L → i < L.cells → at L.span i ≡ m → Missing L id i r → 12288 ≤ r
+  pub numbered_ready : {i : ℕ} → Layered L → i < L.cells → at L.span i ≡ m → Missing L id i None
       → (j : ℕ) → at L.first i ≤ j → j < at L.first (suc i) → 32 ≤ at L.operand j → at id (at L.operand j - 32) < n
-  numbered_ready {i} v h own g o j a b big =
+  numbered_ready {i} v h own g j a b big =
       let x = at L.operand j - 32 in
       let l : x < L.cells = omega (arith, v.wired.earlier i j h a b) in
       go l (ℕ_discrete (at L.span x) (at L.span i))
     where
       go : at L.operand j - 32 < L.cells → Dec (at L.span (at L.operand j - 32) ≡ at L.span i) → at id (at L.operand j - 32) < n
-      go l (yes e) = numbered_given (at L.operand j - 32) l (g.none o j a b big e)
+      go l (yes e) = numbered_given (at L.operand j - 32) l (g j a b big e)
       go l (no e) = s.lower (at L.operand j - 32) l (omega (arith, v.above i j h a b big))
-
--- ── Numbers that were given ─────────────────────────────────────────────────────────────────
-
-module _ {L : Layers} {m : ℕ} where
-  pub extended_same : {n : ℕ} {id code : List ℕ} → Numbered L m n id code → Extended L m n n code id code
-  extended_same s = record { numbered = s; more = omega arith; kept = λ q h. refl }
-
-  pub extended_more : {a b r : ℕ} {old id code ids codes : List ℕ} → Extended L m a b old id code
-      → Extended L m b r code ids codes → Extended L m a r old ids codes
-  extended_more s t = record {
-    numbered = t.numbered;
-    more = omega (arith, s.more, t.more);
-    kept = λ q h. t.kept q (omega (arith, s.more)) ∙ s.kept q h;
-  }
-
-  -- By the column `code`, which has stayed.
-  pub extended_number : {n r : ℕ} {id code ids codes : List ℕ} (i : ℕ) → L.cells ≤ 12288 → Numbered L m n id code
-      → Extended L m n r code ids codes → i < L.cells → at id i < n → at ids i < r
-  extended_number {n} {r} {id} {code} {ids} {codes} i few s t h l =
-      let e : at code (at id i) ≡ i = ⊎_elim (λ z. absurd (let y : ⊥ = omega (arith, s.few) in y)) (λ z. z.1) (s.each i h) in
-      let g = ap (at ids) (sym (t.kept (at id i) l ∙ e)) ∙ t.numbered.number (at id i) (omega (arith, t.more)) in
-      omega (arith, g, t.more)

@@ -12,9 +12,8 @@
 -- Why values are the same, by induction on the new number: an operand is a chosen bit, which stays, or a cell, which has a smaller number.
 use Prim.Native.Nat.{ℕ, zero, suc, ◌+◌, ◌-◌, ◌^◌, ◌/◌, ◌%◌, ◌≤◌, ◌<◌}
 use native.Mathlib.Omega.{arith}
-use native.Mathlib.Decide.{ℕ_discrete}
 use mathlib.Core.Path.{◌≡◌, refl, sym, ap, ap₂, ◌∙◌}
-use mathlib.Core.Bool.{Bool, true, false}
+use Rattle.std.proofs.Common.{Option, Some, None}
 use mathlib.Core.Logic.{◌⊎◌, inl, inr, ⊎_elim}
 use mathlib.Core.List.{List, ◌∷◌, map}
 use lib.ListN.{length, take, drop}
@@ -22,11 +21,11 @@ use lib.Seq.{drop-cons}
 use Rattle.theory.specs.Gate.{gate}
 use Rattle.theory.specs.Move.{digit}
 use Rattle.graph.specs.Columns.{at}
-use Rattle.search.specs.inner.Program.{Program, look, values_to, value_at, RightProgram, Owes, GivesDues, Fillable, FillsTo, Fulfils, SolvesLists, Levelled}
+use Rattle.search.specs.inner.Program.{Program, look, values_to, value_at, RightProgram, Owes, GivesDues, asked, Fillable, FillsTo, Fulfils, SolvesLists, Levelled}
 use Rattle.solve.specs.inner.Parts.{OperandsWired, BitsBelow}
-use Rattle.solve.specs.inner.Numbers.{Ranked, ins, renumbered, ProgramRenumbered, Redue, Refill}
+use Rattle.solve.specs.inner.Numbers.{Ranked, ins, renumbered, ProgramRenumbered, Redue, refilled, Refill}
 use Rattle.search.proofs.Values.{look_bit, look_cell, values_at, value_gate}
-use Rattle.solve.proofs.Renumbering.{moved_bit, moved_cell, refilled_none, one_filling, renumbered_room}
+use Rattle.solve.proofs.Renumbering.{moved_bit, moved_cell, renumbered_room}
 
 mapped_same : (f g : ℕ → ℕ) (xs ys : List ℕ) (n a b : ℕ) → a + n ≤ length xs → b + n ≤ length ys
     → ((t : ℕ) → t < n → f (at xs (a + t)) ≡ g (at ys (b + t))) → map f (take n (drop a xs)) ≡ map g (take n (drop b ys))
@@ -44,6 +43,7 @@ pub program_wired : {cells k : ℕ} {P : Program} → RightProgram cells k P →
 program_wired f = record {
   few_cells = f.few_cells;
   first_rows = f.first_rows;
+  rising = f.rising;
   in_rows = f.in_rows;
   earlier = λ i j h a b. ⊎_elim (λ w. omega (arith, f.few_bits)) (λ w. w.1) (f.earlier i j h a b);
 }
@@ -186,27 +186,31 @@ module _ {cells k : ℕ} {P Q : Program} {id code levels : List ℕ} (f : RightP
 
   -- ── The same fillings ───────────────────────────────────────────────────────────────────────
 
-  module _ {fill : List ℕ} (fills : List ℕ) (a : Fillable cells k fill) (q : Refill id (length fill) fill fills) (same : length fills ≡ length fill) where
-    new_fillable : Fillable cells k fills
-    new_fillable = record { few = omega arith; cell = λ x h. go x (omega arith) (ℕ_discrete (at fill x) 0) }
-      where
-        go : (x : ℕ) → x < length fill → Dec (at fill x ≡ 0) → at fills x ≤ cells
-        go x h (yes z) = omega (arith, (q x h).free z)
-        go x h (no z) = omega (arith, (q x h).read (omega arith), a.cell x h, (r.paired.each (at fill x - 1) (omega (arith, a.cell x h))).0)
+  module _ {fill : List (Option ℕ)} (fills : List (Option ℕ)) (a : Fillable cells k fill) (q : Refill id fill fills) (same : length fills ≡ length fill) where
+    -- A cell that asks for a filling now is one that did, under its new number.
+    record Before (x j : ℕ) : Type 0 where
+      pub cell : ℕ
+      pub asks : asked fill x ≡ Some cell
+      pub is : j ≡ at id cell
 
-    fill_value : (c x : ℕ) → x < length fill → 0 < at fill x → value_at Q k c (at fills x - 1) ≡ value_at P k c (at fill x - 1)
-    fill_value c x h l =
-        let z : at fills x - 1 ≡ at id (at fill x - 1) = omega (arith, (q x h).read l) in
-        ap (value_at Q k c) z ∙ value_same c (at fill x - 1) (omega (arith, a.cell x h))
+    before_of : (x j : ℕ) → asked fills x ≡ Some j → Before x j
+    before_of x j e = go (asked fill x) refl
+      where
+        go : (place : Option ℕ) → asked fill x ≡ place → Before x j
+        go (Some i) z = let y : Some j ≡ Some (at id i) = sym e ∙ q x ∙ ap (refilled id) z in record { cell = i; asks = z; is = cc }
+        go None z = absurd (let y : Some j ≡ None = sym e ∙ q x ∙ ap (refilled id) z in cc)
+
+    new_fillable : Fillable cells k fills
+    new_fillable = record { few = omega (arith, a.few); cell = λ x j e. let b = before_of x j e in omega (arith, b.is, (r.paired.each b.cell (a.cell x b.cell b.asks)).0) }
 
     fills_old : (c : ℕ) → FillsTo k Q fills c → FillsTo k P fill c
-    fills_old c w x h =
-        one_filling (at fills x) (at fill x) (refilled_none (at fill x) (q x h)) (ap (λ n. digit (n + k) c x) same) (λ u. fill_value (c % 2 ^ k) x h) (w x (omega arith))
+    fills_old c w x i e =
+        ap (λ n. digit (n + k) c x) (sym same) ∙ w x (at id i) (q x ∙ ap (refilled id) e) ∙ value_same (c % 2 ^ k) i (a.cell x i e)
 
     fills_new : (c : ℕ) → FillsTo k P fill c → FillsTo k Q fills c
-    fills_new c w x h =
-        let l : x < length fill = omega arith in
-        one_filling (at fill x) (at fills x) (q x l).free (ap (λ n. digit (n + k) c x) (sym same)) (λ y u. sym (fill_value (c % 2 ^ k) x l y)) (w x l)
+    fills_new c w x j e =
+        let b = before_of x j e in
+        ap (λ n. digit (n + k) c x) same ∙ w x b.cell b.asks ∙ sym (value_same (c % 2 ^ k) b.cell (a.cell x b.cell b.asks)) ∙ ap (value_at Q k (c % 2 ^ k)) (sym b.is)
 
   -- ── The same dues ───────────────────────────────────────────────────────────────────────────
 
@@ -236,15 +240,15 @@ module _ {cells k : ℕ} {P Q : Program} {id code levels : List ℕ} (f : RightP
     holds_new : (c : ℕ) → GivesDues k P due (at begin edges) c → GivesDues k Q dues (at begin edges) c
     holds_new c w x h = due_bit x h ∙ w x h ∙ sym (value_due c x h)
 
-    module _ {fill : List ℕ} (fills : List ℕ) (a : Fillable cells k fill) (r' : Refill id (length fill) fill fills) (same : length fills ≡ length fill) where
+    module _ {fill : List (Option ℕ)} (fills : List (Option ℕ)) (a : Fillable cells k fill) (r' : Refill id fill fills) (same : length fills ≡ length fill) where
       fulfils : (c : ℕ) → Fulfils k P due (at begin edges) fill c → Fulfils k Q dues (at begin edges) fills c
       fulfils c v = (holds_new (c % 2 ^ k) v.0, fills_new fills a r' same c v.1)
 
-      pub solves_old : (found : Bool) (c : ℕ) → SolvesLists k Q dues (at begin edges) fills found c → SolvesLists k P due (at begin edges) fill found c
-      solves_old true c w = (rw (← same) w.0, (holds_old (c % 2 ^ k) w.1.0, fills_old fills a r' same c w.1.1), λ e l p v. w.2 e (rw same l) p (fulfils e v))
-      solves_old false c w = λ e l v. w e (rw same l) (fulfils e v)
+      pub solves_old : (c : Option ℕ) → SolvesLists k Q dues (at begin edges) fills c → SolvesLists k P due (at begin edges) fill c
+      solves_old (Some c) w = (rw (← same) w.0, (holds_old (c % 2 ^ k) w.1.0, fills_old fills a r' same c w.1.1), λ e l p v. w.2 e (rw same l) p (fulfils e v))
+      solves_old None w = λ e l v. w e (rw same l) (fulfils e v)
 
       -- In the words of `search`, which counts the cells by the end of the last level.
       pub search_ready : cells ≤ length Q.kind → suc cells ≤ length Q.first → suc k < length levels → at begin edges ≤ length dues
-          → let n = at levels (suc k) in RightProgram n k Q × (Levelled n k Q levels × (Owes n dues begin edges × Fillable n k fills))
-      search_ready kind_rows first_rows level_rows due_rows = rw r.whole (new_program kind_rows first_rows, (new_levelled level_rows, (new_owes due_rows, new_fillable fills a r' same)))
+          → let n = at levels (suc k) in RightProgram n k Q × Levelled n k Q levels × Owes n dues begin edges × Fillable n k fills
+      search_ready kind_rows first_rows level_rows due_rows = rw r.whole (new_program kind_rows first_rows, new_levelled level_rows, new_owes due_rows, new_fillable fills a r' same)

@@ -2,3 +2,5 @@
 pub mod Parts
 -- New numbers for the cells, and the program under them.
 pub mod Numbers
+-- The numbers as the code holds them.
+pub mod Numbering

@@ -2,115 +2,111 @@
 // Private to the crate: `solve` hands on the numbers that it asks for.
 ghost use Rattle.std.specs.Prelude.{◌≡◌, ℕ, suc, ◌+◌, ◌-◌, ◌*◌, ◌/◌, ◌%◌, ◌≤◌, ◌<◌, length};
 ghost use Rattle.graph.specs.Columns.{at};
-ghost use Rattle.search.specs.inner.Program.{program_of};
-ghost use Rattle.solve.specs.inner.Parts.{OperandsWired};
-ghost use Rattle.solve.specs.inner.Numbers.{Paired, renumbered, Copied, ProgramRenumbered, Redue, Refilled, Refill};
+ghost use Rattle.search.specs.inner.Program.{program_of, asked};
+ghost use Rattle.solve.specs.inner.Numbers.{Paired, renumbered, Renumberable, Copied, ProgramRenumbered, Redue, refilled, Refill};
+
+use crate::cells::Cells;
+use search::Program;
 
 // An operand: a chosen bit stays, a cell has its new number.
+#[tactic(auto, unfolding(crate::specs::inner::Numbers::renumbered))]
 fn renumbered(x: u16, id: &[u16]) -> u16
-    requires { 32 ≤ x → (x - 32 < length id.now) × (at id.now (x - 32) < 12288) }
+    requires { Renumberable id.now x }
     ensures { result ≡ renumbered id.now x }
 {
     if x < 32 { x } else { 32 + id[x as usize - 32] }
 }
 
-// The operands from place `lo` up to `hi`, put from `start` on. The place after them.
-fn append_operands(
-    operand: &[u16],
-    lo: usize,
-    hi: usize,
-    id: &[u16],
-    start: usize,
-    operands: &mut [u16],
-) -> usize
-    requires lo_le_hi { (lo ≤ hi) × (hi ≤ length operand.now) × (start + (hi - lo) ≤ length operands.old) }
-    requires by_index { (j : ℕ) → lo ≤ j → j < hi → 32 ≤ at operand.now j
-        → (at operand.now j - 32 < length id.now) × (at id.now (at operand.now j - 32) < 12288) }
-    ensures { (result ≡ start + (hi - lo))
-        × Copied operand.now id.now lo hi start operands.old operands.new }
-{
-    let mut n = start;
-    let mut j = lo;
-    while j < hi {
-        operands[n] = renumbered(operand[j], id);
-        n += 1;
-        j += 1;
-    }
-    n
+// The columns of a program, with room for so many cells and operands.
+#[derive(Drop)]
+pub struct Columns<const CELLS: usize, const FIRSTS: usize, const OPERANDS: usize> {
+    pub kind: [u8; CELLS],
+    pub first: [u16; FIRSTS],
+    pub operand: [u16; OPERANDS],
 }
 
-// The cells in the order of their new numbers.
-pub fn renumber_cells<'a>(
-    kind: &'a [u8],
-    first: &'a [u16],
-    operand: &'a [u16],
-    cells: usize,
-    id: &[u16],
-    code: &[u16],
-    kinds: &mut [u8],
-    firsts: &mut [u16],
-    operands: &mut [u16],
-)
-    requires operands_wired { OperandsWired cells first.now operand.now × ((i : ℕ) → i < cells → at first.now i ≤ at first.now (suc i))
-        × Paired cells id.now code.now }
-    requires cells_in_bounds { (cells ≤ length kind.now) × (cells ≤ length kinds.old) × (suc cells ≤ length firsts.old)
-        × ((i : ℕ) → i < cells → at first.now (suc i) ≤ length operands.old) }
-    ensures { ProgramRenumbered cells (program_of kind.now first.now operand.now)
-        id.now code.now (program_of kinds.new firsts.new operands.new) }
-{
-    firsts[0] = 0;
-    let mut n = 0;
-    let mut q = 0;
-    while q < cells {
-        let i = code[q] as usize;
-        kinds[q] = kind[i];
-        n = append_operands(
-            operand,
-            first[i] as usize,
-            first[i + 1] as usize,
-            id,
-            n,
-            operands,
-        );
-        q += 1;
-        firsts[q] = n as u16;
+impl<const CELLS: usize, const FIRSTS: usize, const OPERANDS: usize> Columns<
+    CELLS,
+    FIRSTS,
+    OPERANDS,
+> {
+    // All 0.
+    pub fn new() -> Self {
+        Columns {
+            kind: [0; CELLS],
+            first: [0; FIRSTS],
+            operand: [0; OPERANDS],
+        }
+    }
+
+    // What a cell sees, put from `start` on.
+    fn put_operands(&mut self, operands: &[u16], id: &[u16], start: usize)
+        requires room { start + length operands.now ≤ OPERANDS }
+        requires numbered { (t : ℕ) → t < length operands.now → Renumberable id.now (at operands.now t) }
+        ensures { (self.new.kind ≡ self.old.kind) × (self.new.first ≡ self.old.first)
+            × Copied operands.now id.now 0 (length operands.now) start self.old.operand self.new.operand }
+    {
+        for (t, x) in operands.iter().enumerate() {
+            self.operand[start + t] = renumbered(*x, id);
+        }
+    }
+
+    // The columns together.
+    pub fn program(&self) -> Program<'_>
+        ensures columns { program_of result.kind.now result.first.now result.operand.now ≡ program_of self.now.kind self.now.first self.now.operand }
+        ensures rows { (length result.kind.now ≡ CELLS) × (length result.first.now ≡ FIRSTS) × (length result.operand.now ≡ OPERANDS) }
+    {
+        Program {
+            kind: &self.kind,
+            first: &self.first,
+            operand: &self.operand,
+        }
+    }
+
+    // The cells in the order of their new numbers.
+    pub fn renumber(&mut self, kind: &[u8], cells: Cells<'_>, id: &[u16], code: &[u16])
+        requires paired { Paired cells.count id.now code.now }
+        requires room { (cells.count ≤ length kind.now) × (cells.count ≤ CELLS) × (suc cells.count ≤ FIRSTS) × (OPERANDS < 65536)
+            × ((i : ℕ) → i < cells.count → at cells.first.now (suc i) ≤ OPERANDS) }
+        ensures { ProgramRenumbered cells.entry.count (program_of kind.now cells.entry.first.now cells.entry.operand.now)
+            id.now code.now (program_of self.new.kind self.new.first self.new.operand) }
+    {
+        self.first[0] = 0;
+        for q in 0..cells.count {
+            let i = code[q] as usize;
+            let operands = cells.operands(i);
+            let start = self.first[q] as usize;
+            self.kind[q] = kind[i];
+            self.put_operands(operands, id, start);
+            self.first[q + 1] = (start + operands.len()) as u16;
+        }
     }
 }
 
 // The dues, each of the same cell under its new number.
-pub fn renumber_dues(due: &mut [u16], total: usize, id: &[u16])
-    requires { (total ≤ length due.old) × ((x : ℕ) → x < total
-        → (at due.old x / 2 < length id.now) × (at id.now (at due.old x / 2) < 12288)) }
-    ensures { Redue id.now total due.old due.new }
+pub fn renumber_dues(due: &mut [u16], id: &[u16])
+    requires { (x : ℕ) → x < length due.old → (at due.old x / 2 < length id.now) × (at id.now (at due.old x / 2) < 12288) }
+    ensures { Redue id.now (length due.old) due.old due.new }
 {
-    let mut x = 0;
-    while x < total {
-        let i = (due[x] / 2) as usize;
-        due[x] = id[i] * 2 + due[x] % 2;
-        x += 1;
+    for x in due.iter_mut() {
+        *x = id[(*x / 2) as usize] * 2 + *x % 2;
     }
 }
 
-// What a filling asks for: nothing, or a cell, which has its new number.
-fn refilled(place: u16, id: &[u16]) -> u16
-    requires { 0 < place → (place ≤ length id.now) × (at id.now (place - 1) < 12288) }
-    ensures { Refilled id.now place result }
+// What asks for a filling: nothing, or a cell, which has its new number.
+fn refilled(place: Option<u16>, id: &[u16]) -> Option<u16>
+    requires { (i : ℕ) → place ≡ Some i → i < length id.now }
+    ensures { result ≡ refilled id.now place }
 {
-    if place == 0 {
-        0
-    } else {
-        id[place as usize - 1] + 1
-    }
+    place.map(|cell| id[cell as usize])
 }
 
-// What fillings ask for, each the same cell under its new number.
-pub fn renumber_fill(fill: &mut [u16], id: &[u16])
-    requires { (x : ℕ) → x < length fill.old → 0 < at fill.old x → (at fill.old x ≤ length id.now) × (at id.now (at fill.old x - 1) < 12288) }
-    ensures { Refill id.now (length fill.old) fill.old fill.new }
+// What asks for fillings, each the same cell under its new number.
+pub fn renumber_fill(fill: &mut [Option<u16>], id: &[u16])
+    requires { (x i : ℕ) → asked fill.old x ≡ Some i → i < length id.now }
+    ensures { Refill id.now fill.old fill.new }
 {
-    let mut x = 0;
-    while x < fill.len() {
-        fill[x] = refilled(fill[x], id);
-        x += 1;
+    for place in fill.iter_mut() {
+        *place = refilled(*place, id);
     }
 }

@@ -8,7 +8,8 @@ use native.Mathlib.Omega.{arith}
 use native.Mathlib.Decide.{ℕ_discrete, dec_lt}
 use mathlib.Core.Path.{◌≡◌, sym, ap, ◌∙◌, subst}
 use mathlib.Core.List.{List, map}
-use lib.ListN.{length, set, length-map}
+use lib.ListN.{length, set, take, length-map}
+use Rattle.std.proofs.lemmas.List.{take-map, drop-map}
 use lib.Seq.{get_or-set_same, get_or-set_other}
 use Rattle.theory.specs.Clock.{seen}
 use Rattle.theory.specs.Gate.{gate}
@@ -69,11 +70,14 @@ module _ (net : Netlist) (lab : List ℕ) (ok : Steppable net) (m : Labelled net
         ∙ turned_edge net.from net.count net.start (at ins k) s (edge_rows (at ins k) (en.edge k (omega arith))) late j
 
     -- What it sees then.
+    abbrev sees : List ℕ
+    sees = part slots (at first v) (at first (suc v))
+
     abbrev saw : ℕ → List ℕ → List ℕ
-    saw j ring = map (at ring) (part (map (turned j) slots) (at first v) (at first (suc v)))
+    saw j ring = map (at ring) (map (turned j) sees)
 
     abbrev after : ℕ → List ℕ → List ℕ
-    after j ring = ahead (at net.kind v) slots (at first v) (at first (suc v)) (row s + v) j ring
+    after j ring = ahead (at net.kind v) sees (row s + v) j ring
 
     -- Its first j values are there, if this is its last place.
     abbrev Begun : ℕ → List ℕ → Type 0
@@ -100,6 +104,7 @@ module _ (net : Netlist) (lab : List ℕ) (ok : Steppable net) (m : Labelled net
         go k a q b (yes z) =
             subst (λ t. at (set ring here x) (row (s + t) + v) ≡ quietly net v (s + t)) (sym z)
             (get_or-set_same ring here x 0 (let y : here < length ring = omega (arith, low, held.size) in y)
+            ∙ ap (λ l. gate (at net.kind v) (map (at ring) l)) (sym (take-map (turned j) _ _) ∙ ap (take (at first (suc v) - at first v)) (sym (drop-map (turned j) (at first v) slots)))
             ∙ node_right net lab ok m ins first en (map (turned j) slots) ring rows (let y = length-map slots (turned j) in omega arith) (s + j) v (w.nodes_only i h) (omega arith) (later j)
             (λ e k r. edge_right ring i e j held passed k (ap (at p.place) r ∙ q) l (omega (arith, ap (at lab) r))))
         go k a q b (no z) = get_or-set_other ring here (row (s + k) + v) x 0 (let y : ¬ (row (s + k) + v ≡ here) = λ r. omega (arith, row_ahead s k even (omega arith), row_ahead s j even l) in y) ∙ begun k (omega arith) q b

@@ -12,20 +12,19 @@ use Rattle.theory.specs.Gate.{gate}
 use Rattle.theory.specs.Move.{move}
 use Rattle.theory.proofs.numbers.Sums.{sum_same}
 use Rattle.graph.specs.Columns.{at}
-use Rattle.gates.specs.inner.Gates.{AllBits}
 use Rattle.netlist.specs.declared.Netlist.{Netlist}
 use Rattle.netlist.specs.Net.{with_columns, graph_of, regs_of}
 use Rattle.netlist.specs.inner.Words.{retimed_at}
 use Rattle.netlist.proofs.Lowest.{count_low}
 use Rattle.lags.proofs.Laws.{lag_label, lag_up}
-use Rattle.moves.specs.inner.Labels.{lags_of, chosen_at}
+use Rattle.moves.specs.inner.Labels.{lags_of, chosen_at, Labelled}
 use Rattle.moves.specs.inner.Moving.{Moving}
 use Rattle.moves.specs.inner.Chosen.{chosen_word}
 use Rattle.moves.specs.Moved.{word_of, moved_net}
 use Rattle.moves.specs.inner.Columns.{Filled, none}
 use Rattle.moves.proofs.Labels.{from_node, low_edges, low_nodes, new_fits, new_is}
 use Rattle.moves.proofs.Moved.{with_is}
-use Rattle.starts.specs.inner.Ring.{Followed}
+use Rattle.starts.specs.inner.Ring.{Followed, EdgeRows}
 use Rattle.starts.specs.inner.Starts.{start_at, shown_slot, starts_at}
 use Rattle.starts.proofs.Quiet.{new_chosen, new_seen}
 use Rattle.starts.proofs.Held.{shows}
@@ -42,19 +41,9 @@ module _ (net : Netlist) (lab counts : List ℕ) (m : Moving net lab counts) (e 
       ∙ ap (word_of (start_at net lab c e)) (sym is)
 
   -- What filling the word up asks.
-  pub fillable : (word : ℕ) (ring : List ℕ) → word < 2 ^ chosen_at net lab e → 32770 ≤ length ring → Followed net lab ring
-      → ((chosen ≤ at counts e) × (at counts e ≤ 32) × (chosen < at counts e → at lab (at net.to e) ≤ chosen + 16384))
-      × ((word < 2 ^ chosen) × (at net.from e < 512) × (at net.count e ≤ 32) × (32770 ≤ length ring) × AllBits ring)
-  fillable word ring s l f = (
-    (omega (arith, many), m.narrow e h, λ y. omega (arith, many)),
-    (
-      subst (λ n. word < 2 ^ n) (sym is) s,
-      omega (arith, from_node net lab m.labelled e h, low_nodes net lab m.labelled),
-      count_low net m.labelled.fit e h,
-      l,
-      f.bits,
-    ),
-  )
+  pub fillable : (word : ℕ) → word < 2 ^ chosen_at net lab e
+      → (word < 2 ^ chosen) × (chosen ≤ at counts e) × (at counts e ≤ 32) × (chosen < at counts e → at lab (at net.to e) ≤ chosen + 16384)
+  fillable word s = (subst (λ n. word < 2 ^ n) (sym is) s, omega (arith, many), m.narrow e h, λ y. omega (arith, many))
 
   -- New start value t is what the edge shows in clock t − r(v): a start value, or its source's value at one of the last 32 clocks at which that is asked for.
   pub shown_found : (c : ℕ) (ring : List ℕ) → Followed net lab ring → (t : ℕ) → chosen ≤ t → t < at counts e
@@ -79,6 +68,17 @@ module _ (net : Netlist) (lab counts : List ℕ) (m : Moving net lab counts) (e 
       moves =
           let l = new_fits net lab m.labelled e h in
           omega (arith, m.counted e h, new_is net lab m.labelled e h (at net.count e + v - at lab u) (omega arith))
+
+-- An edge shows a node behind 32 registers at most.
+pub shown_rows : (net : Netlist) (lab : List ℕ) → Labelled net lab → length net.from ≡ 1024 → length net.count ≡ 1024 → length net.start ≡ 1024
+    → (e : ℕ) → e < net.edges → EdgeRows net.from net.count net.start e
+shown_rows net lab s from count start e h =
+    let few = low_edges net lab s in
+    record {
+      rows = (omega arith, omega arith, omega arith);
+      source = omega (arith, from_node net lab s e h, low_nodes net lab s);
+      width = count_low net s.fit e h;
+    }
 
 -- ── The moved netlist ───────────────────────────────────────────────────────────────────────
 

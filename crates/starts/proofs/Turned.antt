@@ -2,11 +2,10 @@
 --   turned_low          slots stay in the ring
 --   turned_edge         past the start values, j rows further is j clocks later
 --   ahead_more, all_next    one clock of a gate more; one gate more
---   own_part            a gate's own slots, j rows further
---   inputs_like, clocked_like    with the number of inputs written otherwise
 --   few_inputs          a gate with a truth word has eight inputs at most
 --   Along               after j clocks of a gate: its slots, and the ring
 --   along_start, along_inputs, along_next    before the first; what it sees is in place; one clock more
+--   taken_cut, evaluable_front, truths_front    of a longer list, its first gates as a list of their own
 --   places_none, places_more    the places of no node yet; one further
 --   strides_some, strides_alone    a clock is taken at least, and 32 at most; just one, where the next is not one that 32 divides
 --   row_ahead           in the 32 clocks from one on that 32 divides, row by row
@@ -19,17 +18,19 @@ use mathlib.Core.Path.{◌≡◌, refl, sym, ap, ap₂, subst, ◌∙◌}
 use mathlib.Core.Logic.{inl, inr}
 use mathlib.Core.List.{List, map}
 use lib.Pow.{pow_mono}
-use lib.ListN.{length, set, length-set, take, replicate, length-map}
+use lib.ListN.{length, take, set, length-set, replicate, length-map}
+use Rattle.std.proofs.lemmas.List.{ext_get_or}
 use lib.Seq.{get_or-set_same, get_or-set_other}
 use Rattle.theory.specs.Gate.{gate}
 use Rattle.graph.specs.Columns.{at}
-use Rattle.graph.proofs.Parts.{part_map, map_at}
-use Rattle.gates.specs.inner.Gates.{part, AllBits, Reckons, InputRows}
-use Rattle.gates.proofs.Row.{bits_set}
+use Rattle.graph.proofs.Parts.{map_at}
+use Rattle.gates.specs.inner.Gates.{part, AllBits, Narrow, Reckons, InputRows, Evaluable, Truths}
+use Rattle.gates.proofs.Words.{part_at}
+use Rattle.gates.proofs.Row.{bits_set, evaluable_cut, truths_cut, evaluated_cut, cut_length}
 use Rattle.netlist.specs.Net.{zeros}
 use Rattle.netlist.proofs.Rows.{zeros_at}
 use Rattle.starts.specs.inner.Ring.{row, edge_slot, EdgeRows, further}
-use Rattle.starts.specs.inner.Ahead.{turned, Clocked, ahead, all_ahead, Places, Strides}
+use Rattle.starts.specs.inner.Ahead.{turned, ahead, all_ahead, Places, Strides, Taken}
 use Rattle.starts.proofs.Slots.{edge_turn}
 
 turned_low : (j c size : ℕ) → c < size → 32768 ≤ size → turned j c < size
@@ -43,41 +44,27 @@ turned_edge from count start e s r h zero = ap (λ t. edge_slot from count start
 turned_edge from count start e s r h (suc j) =
     ap further (turned_edge from count start e s r h j) ∙ edge_turn from count start e (s + j) (s + suc j) r (omega arith) (omega arith)
 
-module _ (kind : ℕ) (slots : List ℕ) (lo hi place : ℕ) (ring : List ℕ) where
-  ahead_more : (j : ℕ) → ahead kind slots lo hi place (j + 1) ring
-      ≡ (let before = ahead kind slots lo hi place j ring in set before (place + j * 512) (gate kind (map (at before) (part (map (turned j) slots) lo hi))))
+module _ (kind : ℕ) (sees : List ℕ) (place : ℕ) (ring : List ℕ) where
+  ahead_more : (j : ℕ) → ahead kind sees place (j + 1) ring
+      ≡ (let before = ahead kind sees place j ring in set before (place + j * 512) (gate kind (map (at before) (map (turned j) sees))))
   unfolding ahead
   ahead_more j = rw add-one
 
 pub all_next : (kind node first slots : List ℕ) (base : ℕ) (ring old new : List ℕ) (n : ℕ) → old ≡ all_ahead kind node first slots base n ring
-    → (let v = at node n in new ≡ ahead (at kind v) slots (at first v) (at first (suc v)) (base + v) 32 old) → new ≡ all_ahead kind node first slots base (n + 1) ring
+    → (let v = at node n in new ≡ ahead (at kind v) (part slots (at first v) (at first (suc v))) (base + v) 32 old) → new ≡ all_ahead kind node first slots base (n + 1) ring
 unfolding all_ahead
 all_next kind node first slots base ring old new n e q =
     let v = at node n in
-    rw add-one (q ∙ ap (ahead (at kind v) slots (at first v) (at first (suc v)) (base + v) 32) e)
+    rw add-one (q ∙ ap (ahead (at kind v) (part slots (at first v) (at first (suc v))) (base + v) 32) e)
 
-own_part : (own slots : List ℕ) (lo hi j : ℕ) → lo ≤ hi → hi ≤ length slots → hi - lo ≤ length own → ((k : ℕ) → lo + k < hi → at own k ≡ turned j (at slots (lo + k)))
-    → part own 0 (hi - lo) ≡ part (map (turned j) slots) lo hi
-own_part own slots lo hi j up h l w =
-    ap (λ n. take n own) (let z : hi - lo - 0 ≡ hi - lo = omega arith in z)
-    ∙ part_map (turned j) slots own (hi - lo) 0 lo (omega arith) (omega arith) (λ k b. ap (at own) (let z : 0 + k ≡ k = omega arith in z) ∙ w k (omega arith))
-    ∙ sym (part_map (turned j) slots (map (turned j) slots) (hi - lo) lo lo (let z = length-map slots (turned j) in omega arith) (omega arith) (λ k b. map_at (turned j) slots (lo + k) (omega arith)))
-
--- With the number of inputs written otherwise.
-pub inputs_like : {truth n k : ℕ} {own sig : List ℕ} → n ≡ k → InputRows truth own 0 n sig → InputRows truth own 0 k sig
-inputs_like {truth} {n} {k} {own} {sig} q = subst (λ x. InputRows truth own 0 x sig) q
-
-pub clocked_like : {truth n k place : ℕ} {own ring own' ring' : List ℕ} → n ≡ k → Clocked truth k place own ring own' ring' → Clocked truth n place own ring own' ring'
-clocked_like {truth} {n} {k} {place} {own} {ring} {own'} {ring'} q = subst (λ x. Clocked truth x place own ring own' ring') (sym q)
-
-pub few_inputs : (truth lo hi : ℕ) → suc (truth / 512) * 2 ^ (hi - lo) ≤ 264 → hi ≤ lo + 8
-few_inputs truth lo hi h = go (dec_le hi (lo + 8))
+pub few_inputs : (truth n : ℕ) → Narrow truth n → n ≤ 8
+few_inputs truth n h = go (dec_le n 8)
   where
-    go : Dec (hi ≤ lo + 8) → hi ≤ lo + 8
+    go : Dec (n ≤ 8) → n ≤ 8
     go (yes z) = z
     go (no z) =
-        let p : 2 ^ 9 ≤ 2 ^ (hi - lo) = pow_mono {i = 9} {j = hi - lo} (omega arith) in
-        let q : 1 * 2 ^ (hi - lo) ≤ suc (truth / 512) * 2 ^ (hi - lo) = mul-le-mul_right (2 ^ (hi - lo)) (omega arith) in
+        let p : 2 ^ 9 ≤ 2 ^ n = pow_mono {i = 9} {j = n} (omega arith) in
+        let q : 1 * 2 ^ n ≤ suc (truth / 512) * 2 ^ n = mul-le-mul_right (2 ^ n) (omega arith) in
         absurd (let y : ⊥ = omega arith in y)
 
 pub row_ahead : (s j : ℕ) → s % 32 ≡ 0 → j < 32 → row (s + j) ≡ row s + j * 512
@@ -85,47 +72,72 @@ row_ahead s j q h = omega arith
 
 -- ── A gate's 32 clocks ──────────────────────────────────────────────────────────────────────
 
-pub record Along (truth : ℕ) (slots : List ℕ) (lo hi place : ℕ) (ring : List ℕ) (j : ℕ) (own new : List ℕ) : Type 0 where
-  pub low : j ≤ 32
-  pub own_rows : length own ≡ 8
+pub record Along (truth : ℕ) (sees : List ℕ) (place : ℕ) (ring : List ℕ) (j : ℕ) (own new : List ℕ) : Type 0 where
+  pub own_rows : length own ≡ length sees
   pub size : length new ≡ length ring
   pub bits : AllBits new
-  pub own_slots : (k : ℕ) → lo + k < hi → at own k ≡ turned j (at slots (lo + k))
-  pub values : (kind : ℕ) → Reckons kind (hi - lo) truth → new ≡ ahead kind slots lo hi place j ring
+  pub own_slots : (k : ℕ) → k < length sees → at own k ≡ turned j (at sees k)
+  pub values : (kind : ℕ) → Reckons kind (length sees) truth → new ≡ ahead kind sees place j ring
 
-module _ (truth : ℕ) (slots : List ℕ) (lo hi place : ℕ) (ring : List ℕ) (rows : InputRows truth slots lo hi ring) where
-  pub along_start : (own : List ℕ) → length own ≡ 8 → AllBits ring → ((k : ℕ) → lo + k < hi → at own k ≡ at slots (lo + k)) → Along truth slots lo hi place ring 0 own ring
+module _ (truth : ℕ) (sees : List ℕ) (place : ℕ) (ring : List ℕ) (rows : InputRows truth sees ring) where
+  pub along_start : AllBits ring → Along truth sees place ring 0 sees ring
   unfolding turned ahead
-  along_start own q b w = record { low = omega arith; own_rows = q; size = refl; bits = b; own_slots = w; values = λ kind r. refl }
+  along_start b = record { own_rows = refl; size = refl; bits = b; own_slots = λ k h. refl; values = λ kind r. refl }
 
-  module _ (j : ℕ) (own new : List ℕ) (w : Along truth slots lo hi place ring j own new) where
-    pub along_inputs : 32768 ≤ length ring → InputRows truth own 0 (hi - lo) new
+  module _ (j : ℕ) (own new : List ℕ) (w : Along truth sees place ring j own new) where
+    pub along_inputs : 32768 ≤ length ring → InputRows truth own new
     along_inputs h = record {
-      up = omega arith;
-      in_list = omega (arith, w.own_rows, few_inputs truth lo hi rows.narrow);
-      narrow = subst (λ n. suc (truth / 512) * 2 ^ n ≤ 264) (let z : hi - lo ≡ hi - lo - 0 = omega arith in z) rows.narrow;
-      signals = λ k a b. (
-        omega (arith, w.own_slots k (omega arith), w.size, turned_low j (at slots (lo + k)) (length ring) (rows.signals (lo + k) (omega arith) (omega arith)).0 h),
-        w.bits (at own k),
-      );
+      narrow = subst (Narrow truth) (sym w.own_rows) rows.narrow;
+      signals = λ k l.
+          let b : k < length sees = omega (arith, w.own_rows) in
+          (omega (arith, w.own_slots k b, w.size, turned_low j (at sees k) (length ring) (rows.signals k b).0 h), w.bits (at own k));
     }
 
-    pub along_next : (own' new' : List ℕ) → j < 32 → length own' ≡ length own → Clocked truth (hi - lo) (place + j * 512) own new own' new' → Along truth slots lo hi place ring (j + 1) own' new'
+    own_is : own ≡ map (turned j) sees
+    own_is =
+        ext_get_or 0 own (map (turned j) sees) (w.own_rows ∙ sym (length-map sees (turned j)))
+        (λ k l. let b : k < length sees = omega (arith, w.own_rows) in w.own_slots k b ∙ sym (map_at (turned j) sees k b))
+
+    pub along_next : (own' new' : List ℕ) (found : ℕ) → length own' ≡ length own → ((k : ℕ) → k < length own → at own' k ≡ further (at own k)) → new' ≡ set new (place + j * 512) found
+        → (found ≤ 1) × ((kind : ℕ) → Reckons kind (length own) truth → found ≡ gate kind (map (at new) own)) → Along truth sees place ring (j + 1) own' new'
     unfolding turned
-    along_next own' new' l q c = record {
-      low = omega arith;
+    along_next own' new' found q moved puts (bit, right) = record {
       own_rows = q ∙ w.own_rows;
-      size = ap length c.puts ∙ length-set new (place + j * 512) c.found ∙ w.size;
-      bits = subst AllBits (sym c.puts) (bits_set new (place + j * 512) c.found c.bit_found w.bits);
-      own_slots = λ k b. rw (add-one j) (c.further_all k (omega arith) ∙ ap further (w.own_slots k b));
+      size = ap length puts ∙ length-set new (place + j * 512) found ∙ w.size;
+      bits = subst AllBits (sym puts) (bits_set new (place + j * 512) found bit w.bits);
+      own_slots = λ k b. rw (add-one j) (moved k (omega (arith, w.own_rows)) ∙ ap further (w.own_slots k b));
       values = λ kind r.
-          let e = w.values kind r in
-          c.puts
-          ∙ ap₂ (λ x y. set x (place + j * 512) y) e
-          (c.right kind r
-          ∙ ap₂ (λ x y. gate kind (map (at x) y)) e (own_part own slots lo hi j rows.up rows.in_list (omega (arith, w.own_rows, few_inputs truth lo hi rows.narrow)) w.own_slots))
-          ∙ sym (ahead_more kind slots lo hi place ring j);
+          puts
+          ∙ ap₂ (λ x y. set x (place + j * 512) y) (w.values kind r)
+          (right kind (subst (λ n. Reckons kind n truth) (sym w.own_rows) r) ∙ ap₂ (λ x y. gate kind (map (at x) y)) (w.values kind r) own_is)
+          ∙ sym (ahead_more kind sees place ring j);
     }
+
+-- ── The first gates of a longer list ────────────────────────────────────────────────────────
+
+front : (node : List ℕ) (n : ℕ) → part node 0 n ≡ take n node
+front node n = ap (λ m. take m node) (let z : n - 0 ≡ n = omega arith in z)
+
+module _ (kind node first slots : List ℕ) (base : ℕ) (ring : List ℕ) (n : ℕ) (rows : n ≤ length node) where
+  cut_to : (m : ℕ) → m ≤ n → all_ahead kind (part node 0 n) first slots base m ring ≡ all_ahead kind node first slots base m ring
+  unfolding all_ahead
+  cut_to zero h = refl
+  cut_to (suc m) h =
+      ap₂ (λ before v. ahead (at kind v) (part slots (at first v) (at first (suc v))) (base + v) 32 before) (cut_to m (omega arith))
+      (part_at node 0 n m (omega arith) ∙ ap (at node) (let z : 0 + m ≡ m = omega arith in z))
+
+  part_taken : (clocks : ℕ) (new : List ℕ) → Taken kind (part node 0 n) first slots base (length (part node 0 n)) clocks ring new → Taken kind node first slots base n clocks ring new
+  part_taken clocks new (inl (h, q)) = inl (h, q ∙ evaluated_cut kind node first slots base ring n rows)
+  part_taken clocks new (inr (h, q)) = inr (h, q ∙ ap (λ m. all_ahead kind (part node 0 n) first slots base m ring) (cut_length node n rows) ∙ cut_to n (omega arith))
+
+  pub taken_cut : (clocks : ℕ) (new : List ℕ) → Taken kind (take n node) first slots base (length (take n node)) clocks ring new → Taken kind node first slots base n clocks ring new
+  taken_cut clocks new t = part_taken clocks new (subst (λ l. Taken kind l first slots base (length l) clocks ring new) (sym (front node n)) t)
+
+pub evaluable_front : (node truth first list : List ℕ) (n base : ℕ) (sig : List ℕ) → Evaluable node truth first list n base sig → Evaluable (take n node) truth first list (length (take n node)) base sig
+evaluable_front node truth first list n base sig e = subst (λ l. Evaluable l truth first list (length l) base sig) (front node n) (evaluable_cut node truth first list n base sig e)
+
+pub truths_front : (kind node truth first : List ℕ) (n : ℕ) → n ≤ length node → Truths kind node truth first n → Truths kind (take n node) truth first (length (take n node))
+truths_front kind node truth first n h t = subst (λ l. Truths kind l truth first (length l)) (front node n) (truths_cut kind node truth first n h t)
 
 -- ── Places in a list ────────────────────────────────────────────────────────────────────────
 

@@ -2,6 +2,7 @@
 #![tactic(auto)]
 
 mod ahead;
+mod nodes;
 mod ring;
 mod words;
 

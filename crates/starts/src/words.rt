@@ -12,60 +12,54 @@ ghost use Rattle.moves.specs.inner.Columns.{Filled, none};
 ghost use Rattle.starts.specs.inner.Starts.{shown_slot, starts_at};
 
 use crate::BIAS;
-use crate::ring::{ring_of, slot};
+use crate::ring::{SLOTS, Shown, ring_of};
 use graph::EDGES;
 use lags::up_of;
 use moves::{bytes_of, chosen_on, put_bit};
 use netlist::Netlist;
 
-// The start values of an edge: those in `word`, the first `chosen` ones, and then at each clock t below its count what the original shows at clock t − r(v).
-fn filled(
+// The chosen start values of an edge and how many they are, its new count, and the label of the node that it enters.
+#[derive(Clone, Copy)]
+struct Filling {
     word: u32,
     chosen: u32,
     count: u32,
     label: u32,
-    from: u16,
-    w: u8,
-    start: u32,
-    ring: &[u8],
-) -> u32
-    requires chosen_le_count { (chosen ≤ count) × (count ≤ 32) × (chosen < count → label ≤ chosen + 16384) }
-    requires word_bound { (word < 2 ^ chosen) × (from < 512) × (w ≤ 32) × (32770 ≤ length ring.now) × AllBits ring.now }
-    ensures { (f : ℕ → ℕ) → word ≡ word_of f chosen → ((t : ℕ) → chosen ≤ t → t < count → at ring.now (shown_slot from w start label t) ≡ f t) → result ≡ word_of f count }
+    ghost short: { word < 2 ^ chosen },
+    ghost rises: { chosen ≤ count },
+    ghost few: { count ≤ 32 },
+    ghost shown: { chosen < count → label ≤ chosen + 16384 },
+}
+
+// The start values of an edge: those in the word, the chosen ones, and then at each clock t below its count what the original shows at clock t − r(v).
+fn filled(to: Filling, edge: Shown, ring: &[u8; SLOTS]) -> u32
+    requires { AllBits ring.now }
+    ensures { (f : ℕ → ℕ) → to.word ≡ word_of f to.chosen → ((t : ℕ) → to.chosen ≤ t → t < to.count → at ring.now (shown_slot edge.from edge.registers edge.start to.label t) ≡ f t) → result ≡ word_of f to.count }
 {
-    let mut new = word;
-    let mut t = chosen;
-    while t < count {
-        let c = slot(from, w, start, t as usize + BIAS - label as usize);
-        new = put_bit(new, t, ring[c] as u32);
-        t += 1;
+    let mut new = to.word;
+    for t in to.chosen..to.count {
+        let c = edge.slot(t as usize + BIAS - to.label as usize);
+        new = put_bit(new, t, u32::from(ring[c]));
     }
     new
 }
 
 // The new start values, as words: the chosen ones, then those that the original shows.
-fn starts_of(net: Netlist, lab: &[u32], counts: &[u32], words: &[u32]) -> [u32; EDGES]
-    requires { Moving net lab.now counts.now × ShortWords net (lags_of lab.now) words.now }
-    ensures { (c : ℕ) → EdgeWords net (lags_of lab.now) c words.now → Filled (starts_at net lab.now counts.now c) none net.edges result }
+fn starts_of(net: &Netlist, lab: &[u32], counts: &[u32], words: &[u32]) -> [u32; EDGES]
+    requires { Moving net.now lab.now counts.now × ShortWords net.now (lags_of lab.now) words.now }
+    ensures { (c : ℕ) → EdgeWords net.now (lags_of lab.now) c words.now → Filled (starts_at net.now lab.now counts.now c) none net.now.edges result }
 {
-    let edges = net.edges as usize;
     let ring = ring_of(net, lab);
     let mut new = [0u32; EDGES];
-    let mut e = 0;
-    while e < edges {
-        let v = net.to[e] as usize;
-        let chosen = chosen_on(counts[e], up_of(lab[v]));
-        new[e] = filled(
-            words[e],
-            chosen,
-            counts[e],
-            lab[v],
-            net.from[e],
-            net.count[e],
-            net.start[e],
-            &ring,
-        );
-        e += 1;
+    for e in 0..net.edges as usize {
+        let label = lab[net.to[e] as usize];
+        let to = Filling {
+            word: words[e],
+            chosen: chosen_on(counts[e], up_of(label)),
+            count: counts[e],
+            label,
+        };
+        new[e] = filled(to, Shown::of(net, e), &ring);
     }
     new
 }
@@ -74,10 +68,11 @@ fn starts_of(net: Netlist, lab: &[u32], counts: &[u32], words: &[u32]) -> [u32; 
 fn with_columns(net: Netlist, count: [u8; EDGES], start: [u32; EDGES]) -> Netlist
     ensures { result ≡ with_columns net count start }
 {
-    let mut new = net;
-    new.count = count;
-    new.start = start;
-    new
+    Netlist {
+        count,
+        start,
+        ..net
+    }
 }
 
 // "Moved by lags and a choice, a netlist keeps its head, its nodes and the ends of its edges, and each edge gets its new count and new start values."
@@ -86,8 +81,7 @@ pub fn moved(net: Netlist, lab: &[u32], counts: &[u32], words: &[u32]) -> Netlis
     requires { Moving net lab.now counts.now × ShortWords net (lags_of lab.now) words.now }
     ensures { (c : ℕ) → EdgeWords net (lags_of lab.now) c words.now → result ≡ moved_net net (lags_of lab.now) c }
 {
-    let edges = net.edges as usize;
-    let count = bytes_of(counts, edges);
-    let start = starts_of(net, lab, counts, words);
+    let count = bytes_of(counts, net.edges as usize);
+    let start = starts_of(&net, lab, counts, words);
     with_columns(net, count, start)
 }

@@ -4,7 +4,7 @@
 --   RunWords            so of each edge
 --   BestWords           the words of the number that is taken
 --   Chosen              they are found, or no choice carries the start
-use Rattle.std.specs.Prelude.{◌≡◌, Bool, true, false, List, ℕ, ◌+◌, ◌-◌, ◌<◌, ◌≤◌, ℤ}
+use Rattle.std.specs.Prelude.{◌≡◌, Option, Some, None, List, ℕ, ◌+◌, ◌-◌, ◌<◌, ◌≤◌, ℤ}
 use Rattle.theory.specs.Move.{digit}
 use Rattle.graph.specs.Columns.{at}
 use Rattle.netlist.specs.declared.Netlist.{Netlist}
@@ -26,6 +26,6 @@ pub record BestWords (net : Netlist) (r : ℕ → ℤ) (words : List ℕ) : Type
   pub best : BestAt net r number
   pub its_words : EdgeWords net r number words
 
-abbrev pub Chosen : Netlist → (ℕ → ℤ) → Bool → List ℕ → Type 0
-Chosen net r true words = BestWords net r words
-Chosen net r false words = StartlessAt net r
+abbrev pub Chosen : Netlist → (ℕ → ℤ) → Option (List ℕ) → Type 0
+Chosen net r (Some words) = BestWords net r words
+Chosen net r None = StartlessAt net r

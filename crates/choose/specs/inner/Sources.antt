@@ -12,7 +12,7 @@ unfoldable pub source_at : List ℕ → List ℕ → List ℕ → List ℕ → �
 source_at from counts base id t e = cond (ltb t (at counts e)) (at base e + t) (32 + at id (at from e * 32 + (t - at counts e)))
 
 pub record SourceRows (from counts base id : List ℕ) (t e : ℕ) : Type 0 where
-  pub from_row : e < length from
+  pub from_row : e < 1024
   pub count_row : e < length counts
   pub base_row : e < length base
   pub low : at base e ≤ 32768
@@ -23,7 +23,7 @@ abbrev pub width_at : List ℕ → List ℕ → ℕ → ℕ
 width_at begin code i = at begin (at code i / 32 + 1) - at begin (at code i / 32)
 
 pub record OperandRows (from ins begin counts base id code : List ℕ) (i : ℕ) : Type 0 where
-  pub row : at code i / 32 + 1 < length begin
+  pub row : at code i / 32 < 512
   pub rises : at begin (at code i / 32) ≤ at begin (at code i / 32 + 1)
   pub in_rows : at begin (at code i / 32 + 1) ≤ length ins
   pub shows : (k : ℕ) → k < at begin (at code i / 32 + 1) → at begin (at code i / 32) ≤ k → SourceRows from counts base id (at code i % 32) (at ins k)

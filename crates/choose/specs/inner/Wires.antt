@@ -3,7 +3,7 @@
 --   Wires               the operands stand, by the edges that enter each node
 --   Chooses             the search's answer: the best choice that carries the start, or that none does
 --   Standing            a right program, whose cells give what is due exactly where the choice carries the start
-use Rattle.std.specs.Prelude.{◌≡◌, Bool, true, false, ◌↔◌, List, ℕ, ◌<◌, ◌≤◌, ℤ, length}
+use Rattle.std.specs.Prelude.{◌≡◌, Option, Some, None, ◌↔◌, List, ℕ, ◌<◌, ◌≤◌, ℤ, length}
 use Rattle.theory.specs.Move.{sum}
 use Rattle.graph.specs.Columns.{at}
 use Rattle.graph.specs.inner.Sort.{Sorts}
@@ -34,9 +34,9 @@ pub record Wires (net : Netlist) (counts base id code : List ℕ) (cells : ℕ) 
   pub entering : Entering net ins begin
   pub operands : Operands net.from ins begin counts base id code cells first operand
 
-abbrev pub Chooses : Netlist → (ℕ → ℤ) → Bool → ℕ → Type 0
-Chooses net r true c = BestAt net r c
-Chooses net r false c = StartlessAt net r
+abbrev pub Chooses : Netlist → (ℕ → ℤ) → Option ℕ → Type 0
+Chooses net r (Some c) = BestAt net r c
+Chooses net r None = StartlessAt net r
 
 pub record Standing (net : Netlist) (r : ℕ → ℤ) (k cells rows : ℕ) (kind first operand due begin : List ℕ) : Type 0 where
   pub right : RightProgram cells k (program_of kind first operand)

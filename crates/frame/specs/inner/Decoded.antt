@@ -1,23 +1,21 @@
--- What the code makes of a line: its bytes in an array of 16, or none. No line of document 01 has more.
+-- What the code makes of a line: its bytes in an array, or none.
 --   Digits table        the table gives each byte's value as a digit
---   pair_of a b         the byte of the digits a and b; 256 where one of them is none
---   decoded l           the record of the line l
---   framed k n l        the record of the line of kind k with n more bytes at the front of l
-use Rattle.std.specs.Prelude.{◌≡◌, true, false, cond, List, ◌++◌, ℕ, ◌+◌, ◌*◌, ◌-◌, ◌<◌, ltb, leb, length, get_or, replicate}
-use Rattle.frame.specs.declared.Frame.{Frame}
+--   byte_of a b         the byte of the digits a and b; none where one of them is no digit
+--   decoded l           the bytes of the line l
+--   framed k n l        the bytes of the line of kind k with n more bytes at the front of l: those n
+use Rattle.std.specs.Prelude.{◌≡◌, false, cond, List, ℕ, ◌+◌, ◌*◌, ◌<◌, ltb, length, get_or, Option, None, Some}
 use Rattle.frame.specs.Frame.{digit_of, Line, bad, line, frame_at}
 
 pub record Digits (table : List ℕ) : Type 0 where
   pub size : length table ≡ 256
   pub values : (c : ℕ) → c < 256 → get_or table c 0 ≡ digit_of c
 
-unfoldable pub pair_of : ℕ → ℕ → ℕ
-pair_of a b = cond (cond (ltb (digit_of a) 16) (ltb (digit_of b) 16) false) (digit_of a * 16 + digit_of b) 256
+unfoldable pub byte_of : ℕ → ℕ → Option ℕ
+byte_of a b = cond (cond (ltb (digit_of a) 16) (ltb (digit_of b) 16) false) (Some (digit_of a * 16 + digit_of b)) None
 
--- Bytes past the line's are 0.
-abbrev pub decoded : Line → Frame
-decoded bad = record { ok = false; bytes = replicate 16 0 }
-decoded (line bs rest) = record { ok = true; bytes = bs ++ replicate (16 - length bs) 0 }
+abbrev pub decoded : Line → Option (List ℕ)
+decoded bad = None
+decoded (line bs rest) = Some bs
 
-unfoldable pub framed : ℕ → ℕ → List ℕ → Frame
-framed k n l = cond (leb n 16) (decoded (frame_at k n l)) (decoded bad)
+abbrev pub framed : ℕ → ℕ → List ℕ → Option (List ℕ)
+framed k n l = decoded (frame_at k n l)

@@ -46,11 +46,9 @@ pub record Table (index : List ℕ) : Type 0 where
   pub rows : 264 ≤ length index
   pub picks : (w : ℕ) → w < 264 → at index w ≡ picked w
 
-pub record InputRows (truth : ℕ) (list : List ℕ) (lo hi : ℕ) (sig : List ℕ) : Type 0 where
-  pub up : lo ≤ hi
-  pub in_list : hi ≤ length list
-  pub narrow : Narrow truth (hi - lo)
-  pub signals : (j : ℕ) → lo ≤ j → j < hi → (at list j < length sig) × (at sig (at list j) ≤ 1)
+pub record InputRows (truth : ℕ) (sees sig : List ℕ) : Type 0 where
+  pub narrow : Narrow truth (length sees)
+  pub signals : (j : ℕ) → j < length sees → (at sees j < length sig) × (at sig (at sees j) ≤ 1)
 
 -- Gate v sees the signals listed from place first(v) up to first(v + 1), and its value goes to base + v.
 unfoldable pub evaluated : List ℕ → List ℕ → List ℕ → List ℕ → ℕ → ℕ → List ℕ → List ℕ
@@ -70,8 +68,7 @@ pub record GateRows (truth first list : List ℕ) (base size v : ℕ) : Type 0 w
   pub narrow : Narrow (at truth v) (at first (suc v) - at first v)
   pub signals : (j : ℕ) → at first v ≤ j → j < at first (suc v) → at list j < size
 
-pub record Evaluable (node truth index first list : List ℕ) (gates base : ℕ) (sig : List ℕ) : Type 0 where
-  pub table : Table index
+pub record Evaluable (node truth first list : List ℕ) (gates base : ℕ) (sig : List ℕ) : Type 0 where
   pub in_node : gates ≤ length node
   pub placed : (i : ℕ) → i < gates → GateRows truth first list base (length sig) (at node i)
   pub bits : AllBits sig

@@ -2,9 +2,9 @@
 --   Appended            f of each number from lo up to hi, put from `start` on
 --   Filtered, FilteredAt    the first n members of a list that have a property, in their order in the first places of another; one of them
 --   Once                the first n of a list are all different
---   Listed              they are different nodes, and marks say which: 1 for those that stand there, 0 for the others
-use Rattle.std.specs.Prelude.{◌≡◌, List, ℕ, ◌+◌, ◌<◌, ◌≤◌, length}
-use Rattle.graph.specs.Columns.{at}
+--   Listed              they are different nodes, and marks say which
+use Rattle.std.specs.Prelude.{◌≡◌, Bool, true, List, ℕ, ◌+◌, ◌<◌, ◌≤◌, length}
+use Rattle.graph.specs.Columns.{at, flag}
 use Rattle.graph.specs.inner.Sort.{Stands}
 
 pub record Appended (f : ℕ → ℕ) (old new : List ℕ) (lo hi start : ℕ) : Type 0 where
@@ -30,8 +30,8 @@ pub record Filtered (P : ℕ → Type 0) (old : List ℕ) (n : ℕ) (new : List 
 abbrev pub Once : List ℕ → ℕ → Type 0
 Once xs n = (p q : ℕ) → p < q → q < n → ¬ (at xs p ≡ at xs q)
 
-pub record Listed (nodes n : ℕ) (list mark : List ℕ) : Type 0 where
+pub record Listed (nodes n : ℕ) (list : List ℕ) (mark : List Bool) : Type 0 where
   pub nodes_only : (p : ℕ) → p < n → at list p < nodes
   pub once : Once list n
-  pub marked : (p : ℕ) → p < n → at mark (at list p) ≡ 1
-  pub stands : (v : ℕ) → v < nodes → ¬ (at mark v ≡ 0) → Stands list n v
+  pub marked : (p : ℕ) → p < n → flag mark (at list p) ≡ true
+  pub stands : (v : ℕ) → v < nodes → flag mark v ≡ true → Stands list n v

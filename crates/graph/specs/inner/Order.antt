@@ -1,112 +1,70 @@
--- The evaluation order, node by node. An edge is open where `past` is 0: it has no register, and the node that it leaves has not been taken yet.
---   Wires               the edges by the node that they enter, and by the node that they leave
---   Waits, Readable     an open edge enters v, as `waits` looks for it; what it reads
---   Tried               what `place` does: v joins the order, or it stands there already or waits
+-- The evaluation order, node by node. An edge is open while it has no register and the node that it leaves has not been taken yet.
 --   OpenInto            an open edge enters v
 --   Waiting             each of the first n nodes stands in the order, or an open edge enters it
+--   Tried               what `place` does: v joins the order, or it stands there already or waits
 --   Stage               the order so far
---   FirstTried          what becomes of the columns where the nodes below v are tried, whatever graph they are of
 --   Taking              the order so far, while the node u of it is taken
---   Taken               what becomes of the columns where the edges that leave u are passed, up to place k, whatever graph they are of
+--   Taken               what becomes of it where the edges at the first k places of `out`, which leave u, are passed
 --   Going               the first i nodes of the order are taken
---   AllTaken            what becomes of the columns then, whatever graph they are of
 --   Found               what `order_of` finds: an order of all nodes, or a loop without a register
-use Rattle.std.specs.Prelude.{◌≡◌, List, ℕ, ◌+◌, ◌<◌, ◌≤◌, length, set}
+use Rattle.std.specs.Prelude.{◌≡◌, true, false, List, ℕ, ◌+◌, ◌<◌, ◌≤◌, length, set}
 use Rattle.theory.specs.Walk.{Loop}
-use Rattle.graph.specs.Columns.{at, column_graph}
-use Rattle.graph.specs.inner.Laid.{Laid}
+use Rattle.graph.specs.declared.wires.Wires.{Wires}
+use Rattle.graph.specs.declared.both_ways.BothWays.{BothWays}
+use Rattle.graph.specs.declared.order.Placing.{Placing}
+use Rattle.graph.specs.Columns.{at, flag}
+use Rattle.graph.specs.Wires.{wires_graph}
 use Rattle.graph.specs.inner.Lists.{Listed}
-use Rattle.graph.specs.inner.Sort.{Stands, EdgesBy, Ordered}
-
-pub record Wires (nodes edges : ℕ) (from to ins first outs leave : List ℕ) : Type 0 where
-  pub laid : Laid nodes edges from to
-  pub entering : EdgesBy to nodes edges ins first
-  pub leaving : EdgesBy from nodes edges outs leave
+use Rattle.graph.specs.inner.Sort.{Stands, Ordered}
 
 -- ── One node ────────────────────────────────────────────────────────────────────────────────
 
-pub record Readable (ins first past : List ℕ) (v : ℕ) : Type 0 where
-  pub first_rows : v + 1 < length first
-  pub ins_rows : at first (v + 1) ≤ length ins
-  pub past_rows : (k : ℕ) → k < at first (v + 1) → at ins k < length past
+pub record OpenInto (g : BothWays) (p : Placing) (v : ℕ) : Type 0 where
+  pub edge : ℕ
+  pub within : edge < g.wires.edges
+  pub enters : at g.wires.to.now edge ≡ v
+  pub is_open : flag p.is_open edge ≡ true
 
-pub record Waits (ins first past : List ℕ) (v : ℕ) : Type 0 where
-  pub place : ℕ
-  pub low : at first v ≤ place
-  pub high : place < at first (v + 1)
-  pub is_open : at past (at ins place) ≡ 0
+abbrev pub Waiting : BothWays → Placing → ℕ → Type 0
+Waiting g p n = (v : ℕ) → v < n → flag p.mark v ≡ false → OpenInto g p v
 
-pub data Tried (ins first past : List ℕ) (v : ℕ) (order mark : List ℕ) (placed : ℕ) (order' mark' : List ℕ) (r : ℕ) : Type 0 where
-  joins : at mark v ≡ 0 → ¬ Waits ins first past v → order' ≡ set order placed v → mark' ≡ set mark v 1 → r ≡ placed + 1
-      → Tried ins first past v order mark placed order' mark' r
-  stays : (at mark v ≡ 0 → Waits ins first past v) → order' ≡ order → mark' ≡ mark → r ≡ placed
-      → Tried ins first past v order mark placed order' mark' r
+pub data Tried (g : BothWays) (p : Placing) (v : ℕ) (new : Placing) : Type 0 where
+  joins : flag p.mark v ≡ false → ¬ OpenInto g p v
+      → new ≡ record p { placed = p.placed + 1; order = set p.order p.placed v; mark = set p.mark v true } → Tried g p v new
+  stays : (flag p.mark v ≡ false → OpenInto g p v) → new ≡ p → Tried g p v new
 
 -- ── All nodes ───────────────────────────────────────────────────────────────────────────────
 
-pub record OpenInto (edges : ℕ) (to past : List ℕ) (v : ℕ) : Type 0 where
-  pub edge : ℕ
-  pub within : edge < edges
-  pub enters : at to edge ≡ v
-  pub is_open : at past edge ≡ 0
-
-abbrev pub Waiting : ℕ → ℕ → List ℕ → List ℕ → List ℕ → Type 0
-Waiting n edges to past mark = (v : ℕ) → v < n → at mark v ≡ 0 → OpenInto edges to past v
-
 -- `passed`: an edge without a register that is not open leaves a node of the order.
-pub record Stage (nodes edges : ℕ) (from to count ins first past order mark : List ℕ) (placed : ℕ) : Type 0 where
-  pub laid : Laid nodes edges from to
-  pub entering : EdgesBy to nodes edges ins first
-  pub past_rows : edges ≤ length past
-  pub order_rows : nodes ≤ length order
-  pub mark_rows : nodes ≤ length mark
-  pub listed : Listed nodes placed order mark
-  pub bare : (e : ℕ) → e < edges → at past e ≡ 0 → at count e ≡ 0
-  pub passed : (e : ℕ) → e < edges → at count e ≡ 0 → ¬ (at past e ≡ 0) → Stands order placed (at from e)
-  pub sources_first : (p e : ℕ) → p < placed → e < edges → at to e ≡ at order p → at count e ≡ 0 → Stands order p (at from e)
+pub record Stage (g : BothWays) (p : Placing) : Type 0 where
+  pub order_rows : length p.order ≡ 512
+  pub mark_rows : length p.mark ≡ 512
+  pub open_rows : length p.is_open ≡ 1024
+  pub listed : Listed g.wires.nodes p.placed p.order p.mark
+  pub bare : (e : ℕ) → e < g.wires.edges → flag p.is_open e ≡ true → at g.count.now e ≡ 0
+  pub passed : (e : ℕ) → e < g.wires.edges → at g.count.now e ≡ 0 → flag p.is_open e ≡ false → Stands p.order p.placed (at g.wires.from.now e)
+  pub sources_first : (i e : ℕ) → i < p.placed → e < g.wires.edges → at g.wires.to.now e ≡ at p.order i → at g.count.now e ≡ 0 → Stands p.order i (at g.wires.from.now e)
 
-pub record Taking (nodes edges : ℕ) (from to count ins first outs leave past order mark : List ℕ) (placed u : ℕ) : Type 0 where
-  pub stage : Stage nodes edges from to count ins first past order mark placed
-  pub waiting : Waiting nodes edges to past mark
-  pub leaving : EdgesBy from nodes edges outs leave
-  pub taken : Stands order placed u
-
-pub record FirstTried (nodes : ℕ) (ins first past order mark order' mark' : List ℕ) (r v : ℕ) : Type 0 where
-  pub within : v ≤ nodes
-  pub order_rows : length order' ≡ length order
-  pub mark_rows : length mark' ≡ length mark
-  pub tried : (edges : ℕ) (from to count : List ℕ) → Stage nodes edges from to count ins first past order mark 0
-      → Stage nodes edges from to count ins first past order' mark' r × Waiting v edges to past mark'
+pub record Taking (g : BothWays) (p : Placing) (u : ℕ) : Type 0 where
+  pub stage : Stage g p
+  pub waiting : Waiting g p g.wires.nodes
+  pub taken : Stands p.order p.placed u
 
 -- Edges that are not open stay so, and so do the places in the order.
-pub record Taken (to ins first outs leave past order mark : List ℕ) (placed u : ℕ) (past' order' mark' : List ℕ) (r k : ℕ) : Type 0 where
-  pub begun : at leave u ≤ k
-  pub within : k ≤ at leave (u + 1)
-  pub past_rows : length past' ≡ length past
-  pub order_rows : length order' ≡ length order
-  pub mark_rows : length mark' ≡ length mark
-  pub kept : (e : ℕ) → ¬ (at past e ≡ 0) → ¬ (at past' e ≡ 0)
-  pub gone : (j : ℕ) → at leave u ≤ j → j < k → ¬ (at past' (at outs j) ≡ 0)
-  pub same : (p : ℕ) → p < placed → at order' p ≡ at order p
-  pub more : placed ≤ r
-  pub taking : (nodes edges : ℕ) (from count : List ℕ) → Taking nodes edges from to count ins first outs leave past order mark placed u
-      → Taking nodes edges from to count ins first outs leave past' order' mark' r u
+pub record Taken (g : BothWays) (out : List ℕ) (p : Placing) (u : ℕ) (new : Placing) (k : ℕ) : Type 0 where
+  pub taking : Taking g new u
+  pub more : p.placed ≤ new.placed
+  pub same : (i : ℕ) → i < p.placed → at new.order i ≡ at p.order i
+  pub kept : (e : ℕ) → flag p.is_open e ≡ false → flag new.is_open e ≡ false
+  pub gone : (j : ℕ) → j < k → flag new.is_open (at out j) ≡ false
 
-pub record Going (nodes edges : ℕ) (from to count ins first outs leave past order mark : List ℕ) (placed i : ℕ) : Type 0 where
-  pub stage : Stage nodes edges from to count ins first past order mark placed
-  pub waiting : Waiting nodes edges to past mark
-  pub leaving : EdgesBy from nodes edges outs leave
-  pub spent : (p e : ℕ) → p < i → e < edges → at from e ≡ at order p → ¬ (at past e ≡ 0)
-  pub low : i ≤ placed
+pub record Going (g : BothWays) (p : Placing) (i : ℕ) : Type 0 where
+  pub stage : Stage g p
+  pub waiting : Waiting g p g.wires.nodes
+  pub spent : (j e : ℕ) → j < i → e < g.wires.edges → at g.wires.from.now e ≡ at p.order j → flag p.is_open e ≡ false
+  pub low : i ≤ p.placed
 
-pub record AllTaken (to ins first outs leave past order mark : List ℕ) (placed : ℕ) (past' order' mark' : List ℕ) (r i : ℕ) : Type 0 where
-  pub past_rows : length past' ≡ length past
-  pub order_rows : length order' ≡ length order
-  pub mark_rows : length mark' ≡ length mark
-  pub going : (nodes edges : ℕ) (from count : List ℕ) → Going nodes edges from to count ins first outs leave past order mark placed 0
-      → Going nodes edges from to count ins first outs leave past' order' mark' r i
-
-pub record Found (nodes edges : ℕ) (from to count : List ℕ) (placed : ℕ) (order : List ℕ) : Type 0 where
-  pub few : placed ≤ nodes
-  pub whole : placed ≡ nodes → Ordered nodes edges from to count order
-  pub stuck : placed < nodes → (kind : List ℕ) → Loop (column_graph nodes edges kind from to) (at count)
+pub record Found (w : Wires) (count : List ℕ) (p : Placing) : Type 0 where
+  pub few : p.placed ≤ w.nodes
+  pub whole : p.placed ≡ w.nodes → Ordered w.nodes w.edges w.from.now w.to.now count p.order
+  pub stuck : p.placed < w.nodes → (kind : List ℕ) → Loop (wires_graph kind w) (at count)

@@ -3,10 +3,11 @@
 --   EmptyUnder          an edge that is empty under the labels
 --   LabelOrder          a list of all nodes, each after the source of every edge that enters it and is empty under the labels
 --   HeldAt, Held        0 for an edge that is empty under the labels, and only for such; so for all edges
---   Readable            edges whose sources have labels and times
+--   Readable            edges, and their sources are nodes
 --   LatestTime          the latest time of a source of an edge that is empty under the labels, 0 where there is none
 --   Arrived             the arrival times
 --   LatePin             a pin that is late
+--   Nodes               a list of nodes
 --   Lifted              late labels go up by one, the others stay
 --   LateBy, OnTime      a node that is late; one that is not
 --   Parts               the first n of an order in two lists: those that are late, and the others
@@ -41,18 +42,14 @@ Held net lab held = (e : ℕ) → e < net.edges → HeldAt (at lab (at net.from 
 
 -- ── The times ───────────────────────────────────────────────────────────────────────────────
 
-pub record Readable (ins from count lab time : List ℕ) (here lo hi : ℕ) : Type 0 where
-  pub up : lo ≤ hi
-  pub rows : hi ≤ length ins
-  pub small : here < 32768
-  pub edge : (k : ℕ) → lo ≤ k → k < hi
-      → (at ins k < length from) × (at ins k < length count) × (at from (at ins k) < length lab) × (at from (at ins k) < length time)
+abbrev pub Readable : Netlist → List ℕ → Type 0
+Readable net ins = (k : ℕ) → k < length ins → (at ins k < 1024) × (at net.from (at ins k) < 512)
 
--- `here` is the label of the node that the edges enter.
-pub record LatestTime (ins from count lab time : List ℕ) (here lo hi best : ℕ) : Type 0 where
-  pub above : (k : ℕ) → k < hi → lo ≤ k → at lab (at from (at ins k)) ≡ at count (at ins k) + here → at time (at from (at ins k)) ≤ best
+-- Of the first n of the edges. `here` is the label of the node that they enter.
+pub record LatestTime (net : Netlist) (ins lab time : List ℕ) (here n best : ℕ) : Type 0 where
+  pub above : (k : ℕ) → k < n → at lab (at net.from (at ins k)) ≡ at net.count (at ins k) + here → at time (at net.from (at ins k)) ≤ best
   pub cause : (best ≡ 0)
-      ⊎ ((k : ℕ) × (lo ≤ k) × (k < hi) × (at lab (at from (at ins k)) ≡ at count (at ins k) + here) × (at time (at from (at ins k)) ≡ best))
+      ⊎ ((k : ℕ) × (k < n) × (at lab (at net.from (at ins k)) ≡ at net.count (at ins k) + here) × (at time (at net.from (at ins k)) ≡ best))
 
 abbrev pub Arrived : Netlist → ℕ → List ℕ → List ℕ → Type 0
 Arrived net period lab time = Arrival (graph_of net) (regs_of net).count (delay_of net) period (at lab) (at time)
@@ -64,6 +61,11 @@ pub record LatePin (kind time : List ℕ) (nodes period : ℕ) : Type 0 where
   pub within : node < nodes
   pub pin : at kind node ≤ 1
   pub late : period < at time node
+
+-- A list of nodes, and no more than there may be.
+pub record Nodes (nodes : ℕ) (order : List ℕ) : Type 0 where
+  pub few : nodes ≤ 512
+  pub node : (p : ℕ) → p < nodes → at order p < nodes
 
 pub record Lifted (nodes period : ℕ) (time before after : List ℕ) : Type 0 where
   pub up : (v : ℕ) → v < nodes → period < at time v → at after v ≡ at before v + 1

@@ -6,7 +6,7 @@
 --   Shortened           what a sweep does
 --   Measured            distances that no edge shortens any more
 --   FirstLabels         the labels of such distances
-use Rattle.std.specs.Prelude.{◌≡◌, cond, List, ℕ, ◌+◌, ◌≤◌, ◌<◌, leb, length}
+use Rattle.std.specs.Prelude.{◌≡◌, Bool, true, false, cond, List, ℕ, ◌+◌, ◌≤◌, ◌<◌, leb}
 use Rattle.theory.specs.Move.{sum}
 use Rattle.theory.specs.inner.Arrival.{FromPin}
 use Rattle.graph.specs.Columns.{at}
@@ -21,7 +21,6 @@ abbrev pub distance_sum : Netlist → List ℕ → ℕ
 distance_sum net far = sum (λ v. at far v) net.nodes
 
 pub record Far (net : Netlist) (far : List ℕ) : Type 0 where
-  pub rows : net.nodes ≤ length far
   pub low : (v : ℕ) → v < net.nodes → at far v ≤ 16384
   pub pins : (v : ℕ) → v < net.nodes → PinIn net v → at far v ≡ 0
   pub reached : (v : ℕ) → v < net.nodes → FromPin (graph_of net) (regs_of net).count v (at far v)
@@ -29,10 +28,10 @@ pub record Far (net : Netlist) (far : List ℕ) : Type 0 where
 abbrev pub NoShorter : Netlist → List ℕ → ℕ → Type 0
 NoShorter net far n = (e : ℕ) → e < n → at far (at net.to e) ≤ at far (at net.from e) + at net.count e
 
-pub record Shortened (net : Netlist) (before after : List ℕ) (r : ℕ) : Type 0 where
+pub record Shortened (net : Netlist) (before after : List ℕ) (changed : Bool) : Type 0 where
   pub far : Far net after
-  pub fallen : distance_sum net after + r ≤ distance_sum net before
-  pub passed : r ≡ 0 → NoShorter net after net.edges
+  pub fallen : changed ≡ true → distance_sum net after < distance_sum net before
+  pub passed : changed ≡ false → NoShorter net after net.edges
 
 pub record Measured (net : Netlist) (far : List ℕ) : Type 0 where
   pub ways : Far net far

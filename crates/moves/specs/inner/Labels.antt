@@ -2,9 +2,9 @@
 --   lags_of             the lags of a list of labels
 --   Labelled            labels of a legal retiming
 --   count_at, Counts    the new counts
---   Wide                the lowest count above 32, or that there is none
+--   WideEdge, Wide      the lowest edge with a count above 32; that edge, or that there is none
 --   chosen_at, Bases    how many values are chosen on an edge, and on all edges before it
-use Rattle.std.specs.Prelude.{◌≡◌, List, ℕ, ◌<◌, ◌≤◌, ℤ, length}
+use Rattle.std.specs.Prelude.{◌≡◌, List, ℕ, ◌<◌, ◌≤◌, ℤ, Option, Some, None, length}
 use Rattle.theory.specs.Move.{sum}
 use Rattle.graph.specs.Columns.{at}
 use Rattle.netlist.specs.declared.Netlist.{Netlist}
@@ -27,10 +27,14 @@ count_at net lab e = new_count_at net (lags_of lab) e
 abbrev pub Counts : Netlist → List ℕ → List ℕ → Type 0
 Counts net lab counts = (e : ℕ) → e < net.edges → at counts e ≡ count_at net lab e
 
-pub record Wide (counts : List ℕ) (edges r : ℕ) : Type 0 where
-  pub inside : r ≤ edges
-  pub low : (i : ℕ) → i < r → at counts i ≤ 32
-  pub wide : r < edges → 32 < at counts r
+pub record WideEdge (counts : List ℕ) (edges e : ℕ) : Type 0 where
+  pub inside : e < edges
+  pub low : (i : ℕ) → i < e → at counts i ≤ 32
+  pub wide : 32 < at counts e
+
+abbrev pub Wide : List ℕ → ℕ → Option ℕ → Type 0
+Wide counts edges (Some e) = WideEdge counts edges e
+Wide counts edges None = (i : ℕ) → i < edges → at counts i ≤ 32
 
 abbrev pub chosen_at : Netlist → List ℕ → ℕ → ℕ
 chosen_at net lab e = chosen_on_at net (lags_of lab) e

@@ -1,19 +1,21 @@
 -- The walk from the inputs.
 --   new?                whether a pass marks something
 --   stops               when a walk stops
---   bits_of             marks for a property that can be told
+--   marks_of            marks for a property that can be told
 --   some_walk, one_walk, walk_begins, walk_ends
 use Prim.Native.Nat.{ℕ, zero, suc, ◌≤◌, ◌<◌}
 use native.Mathlib.Omega.{arith}
-use native.Mathlib.Decide.{ℕ_discrete, dec_lt}
+use native.Mathlib.Decide.{dec_lt}
 use mathlib.Core.Path.{◌≡◌, refl, sym, subst, ap, ◌∙◌}
+use mathlib.Core.Bool.{Bool, true, false}
 use mathlib.Core.Logic.{⊎_elim}
-use mathlib.Core.List.{List}
+use mathlib.Core.List.{List, []}
 use borrow.Author.Count.{below_more}
-use lib.Dec.{eqb}
+use lib.ListN.{length, set, replicate, length-set, length-replicate}
+use lib.Seq.{get_or-set_same, get_or-set_other}
 use Rattle.theory.specs.Graph.{Graph, Wired}
 use Rattle.theory.proofs.numbers.Find.{any, not?}
-use Rattle.graph.specs.Columns.{at}
+use Rattle.graph.specs.Columns.{flag}
 use Rattle.graph.specs.declared.layers.Layer.{Layer}
 use Rattle.graph.specs.Layers.{Told, FromWithin, NewAt, LayerFrom}
 use Rattle.graph.proofs.Laws.{from_input, input_from}
@@ -24,8 +26,6 @@ use Rattle.netlist.specs.Net.{graph_of}
 use Rattle.netlist.specs.Read.{Lines, fault, lines, lines_of}
 use Rattle.netlist.specs.Walk.{empty_layer, WalksBy, Walks}
 use Rattle.netlist.specs.Theorems.{SomeWalk, OneWalk, WalkBegins, WalkEnds}
-use Rattle.netlist.specs.inner.Record.{rows_to}
-use Rattle.netlist.proofs.Rows.{rows_to_in}
 use Rattle.netlist.proofs.Run.{fit_wired}
 use Rattle.netlist.proofs.Answered.{lined_fit}
 
@@ -71,41 +71,51 @@ module _ {G : Graph} (w : Wired G) (k : ℕ) where
       go : Stop G k m → Dec (NewAt G k m) → Stop G k (suc m)
       go s d = next s d (dec_lt s.passes m)
 
--- 1 for each of the first n numbers that have the property, else 0.
+-- A mark for each of the first n numbers that have the property.
 module _ {P : ℕ → Type 0} (n : ℕ) (d : (v : ℕ) → v < n → Dec (P v)) where
-  abbrev bit : {A : Type 0} → Dec A → ℕ
-  bit (yes a) = 1
-  bit (no a) = 0
+  abbrev told : {A : Type 0} → Dec A → Bool
+  told (yes a) = true
+  told (no a) = false
 
-  bit_told : {A : Type 0} (x : Dec A) → (bit x ≤ 1) × Told (eqb (bit x) 1) A
-  bit_told (yes a) = (omega arith, a)
-  bit_told (no a) = (omega arith, a)
+  told_tells : {A : Type 0} (x : Dec A) → Told (told x) A
+  told_tells (yes a) = a
+  told_tells (no a) = a
 
-  abbrev pick : (v : ℕ) → Dec (v < n) → ℕ
-  pick v (yes h) = bit (d v h)
-  pick v (no h) = 0
+  abbrev mark : (v : ℕ) → Dec (v < n) → Bool
+  mark v (yes h) = told (d v h)
+  mark v (no h) = false
 
-  bits_of : (f : ℕ → ℕ) × ((v : ℕ) → v < n → (f v ≤ 1) × Told (eqb (f v) 1) (P v))
-  bits_of = ((λ v. pick v (dec_lt v n)), (λ v h. go v h (dec_lt v n)))
+  marks_to : ℕ → List Bool
+  marks_to zero = replicate n false
+  marks_to (suc m) = set (marks_to m) m (mark m (dec_lt m n))
+
+  marks_length : (m : ℕ) → length (marks_to m) ≡ n
+  unfolding marks_to
+  marks_length zero = length-replicate n false
+  marks_length (suc m) = length-set (marks_to m) m (mark m (dec_lt m n)) ∙ marks_length m
+
+  marks_tell : (m : ℕ) → m ≤ n → (v : ℕ) → v < m → Told (flag (marks_to m) v) (P v)
+  unfolding marks_to
+  marks_tell zero h v l = absurd (let z : ⊥ = omega arith in z)
+  marks_tell (suc m) h v l =
+      below_more (λ u. Told (flag (marks_to (suc m)) u) (P u)) m
+      (λ u k. rw (get_or-set_other (marks_to m) m u (mark m (dec_lt m n)) false (omega arith)) (marks_tell m (omega arith) u k))
+      (rw (get_or-set_same (marks_to m) m (mark m (dec_lt m n)) false (omega (arith, marks_length m))) (here (dec_lt m n)))
+      v (omega arith)
     where
-      go : (v : ℕ) → v < n → (x : Dec (v < n)) → (pick v x ≤ 1) × Told (eqb (pick v x) 1) (P v)
-      go v h (yes l) = bit_told (d v l)
-      go v h (no l) = absurd (l h)
+      here : (x : Dec (m < n)) → Told (mark m x) (P m)
+      here (yes q) = told_tells (d m q)
+      here (no q) = absurd (q (omega arith))
+
+  marks_of : (xs : List Bool) × ((v : ℕ) → v < n → Told (flag xs v) (P v))
+  marks_of = (marks_to n, marks_tell n (omega arith))
 
 some_layer : {G : Graph} → Wired G → (k most : ℕ) → (layer : Layer) × LayerFrom G k most layer
 some_layer {G} w k most =
     let s = stops w k most in
-    let f = bits_of G.nodes (λ v h. within? w k s.passes v h) in
-    let marks = rows_to G.nodes f.0 G.nodes in
-    let same : (v : ℕ) → v < G.nodes → at marks v ≡ f.0 v = λ v h. rows_to_in G.nodes f.0 G.nodes (omega arith) v h in (
-      record { passes = s.passes; lo = 0; hi = 0; queue = marks; marks = marks },
-      record {
-        few = s.few;
-        layered = λ v h. subst (λ x. Told (eqb x 1) (FromWithin G k s.passes v)) (sym (same v h)) (f.1 v h).1;
-        bits = λ v h. subst (λ x. x ≤ 1) (sym (same v h)) (f.1 v h).0;
-        going = s.going;
-        ended = s.ended;
-      },
+    let f = marks_of G.nodes (λ v h. within? w k s.passes v h) in (
+      record { passes = s.passes; lo = 0; hi = 0; queue = []; marks = f.0 },
+      record { few = s.few; layered = f.1; going = s.going; ended = s.ended },
     )
 
 pub some_walk : SomeWalk
@@ -130,23 +140,21 @@ module _ {G : Graph} {k most : ℕ} (a b : Layer) (x : LayerFrom G k most a) (y 
       go (no l) (yes m) = absurd (not_less y x m)
       go (no l) (no m) = omega arith
 
-  same_mark : (v : ℕ) → v < G.nodes → at a.marks v ≡ at b.marks v
-  same_mark v h = go (ℕ_discrete (at a.marks v) 1) (ℕ_discrete (at b.marks v) 1)
+  same_mark : (v : ℕ) → v < G.nodes → flag a.marks v ≡ flag b.marks v
+  same_mark v h = one _ _ _ (x.layered v h) (subst (λ n. Told (flag b.marks v) (FromWithin G k n v)) (sym same_passes) (y.layered v h))
     where
-      there : Told (eqb (at b.marks v) 1) (FromWithin G k a.passes v)
-      there = subst (λ n. Told (eqb (at b.marks v) 1) (FromWithin G k n v)) (sym same_passes) (y.layered v h)
-
-      go : Dec (at a.marks v ≡ 1) → Dec (at b.marks v ≡ 1) → at a.marks v ≡ at b.marks v
-      go (yes p) d = p ∙ sym (has_marked there (marked_has (x.layered v h) p))
-      go (no p) (yes q) = absurd (p (has_marked (x.layered v h) (marked_has there q)))
-      go (no p) (no q) = omega (arith, x.bits v h, y.bits v h)
+      one : (P : Type 0) (p q : Bool) → Told p P → Told q P → p ≡ q
+      one P true true t u = refl
+      one P true false t u = absurd (u t)
+      one P false true t u = absurd (t u)
+      one P false false t u = refl
 
 pub one_walk : OneWalk
 one_walk t most s s' layer layer' w w' = go (lines_of t) w w'
   where
     go : (x : Lines) → WalksBy x most s layer → WalksBy x most s' layer'
-        → (s ≡ s') × (layer.passes ≡ layer'.passes) × ((n v : ℕ) → s ≡ value n → v < n → at layer.marks v ≡ at layer'.marks v)
-    go (fault x) p q = let e = p.1 ∙ sym q.1 in (p.0 ∙ sym q.0, ap (λ l. l.passes) e, λ n v f h. ap (λ l. at l.marks v) e)
+        → (s ≡ s') × (layer.passes ≡ layer'.passes) × ((n v : ℕ) → s ≡ value n → v < n → flag layer.marks v ≡ flag layer'.marks v)
+    go (fault x) p q = let e = p.1 ∙ sym q.1 in (p.0 ∙ sym q.0, ap (λ l. l.passes) e, λ n v f h. ap (λ l. flag l.marks v) e)
     go (lines net) p q =
         (p.0 ∙ sym q.0, same_passes layer layer' p.1 q.1, λ n v f h. same_mark layer layer' p.1 q.1 v (subst (λ m. v < m) (let e : n ≡ net.nodes = cc in e) h))
 
@@ -157,7 +165,7 @@ came_of t net most s layer e w = (subst (λ x. WalksBy x most s layer) e w).1
 
 pub walk_begins : WalkBegins
 walk_begins t net most s layer e w z v h =
-    let l = subst (λ n. Told (eqb (at layer.marks v) 1) (FromWithin (graph_of net) 0 n v)) z ((came_of t net most s layer e w).layered v h) in
+    let l = subst (λ n. Told (flag layer.marks v) (FromWithin (graph_of net) 0 n v)) z ((came_of t net most s layer e w).layered v h) in
     mark_tells (λ m. within_none (marked_has l m)) (λ q. has_marked l (within_pin h q))
 
 pub walk_ends : WalkEnds

@@ -1,16 +1,9 @@
 -- What the stages of checking a record owe each other.
 --   rows_to m f n       m rows: f 0, f 1, … n of them, and 0 in the others
 --   cut net n m         the record of the first n nodes and the first m edges of net
---   Tested net n m a    with the answer a: the head, the first n nodes and the first m edges keep their rules; or a is the first fault of the record's text
-use Rattle.std.specs.Prelude.{◌≡◌, List, ℕ, zero, suc, get_or, set}
+use Rattle.std.specs.Prelude.{List, ℕ, zero, suc, get_or, set}
 use Rattle.netlist.specs.declared.Netlist.{Netlist}
-use Rattle.netlist.specs.declared.Answer.{Answer}
-use Rattle.netlist.specs.declared.Answer.TheVariants.{Done, Refused}
-use Rattle.netlist.specs.Answer.{says}
 use Rattle.netlist.specs.Net.{zeros, net_with}
-use Rattle.netlist.specs.Read.{fault, lines_of}
-use Rattle.netlist.specs.Write.{text_of}
-use Rattle.netlist.specs.Theorems.{FitTo}
 
 unfoldable pub rows_to : ℕ → (ℕ → ℕ) → ℕ → List ℕ
 rows_to m f zero = zeros m
@@ -22,7 +15,3 @@ cut net n m =
     (rows_to 512 (λ v. get_or net.kind v 0) n) (rows_to 512 (λ v. get_or net.delay v 0) n)
     (rows_to 1024 (λ e. get_or net.from e 0) m) (rows_to 1024 (λ e. get_or net.to e 0) m)
     (rows_to 1024 (λ e. get_or net.count e 0) m) (rows_to 1024 (λ e. get_or net.start e 0) m)
-
-abbrev pub Tested : Netlist → ℕ → ℕ → Answer → Type 0
-Tested net n m (Done k) = FitTo net n m
-Tested net n m (Refused q p) = lines_of (text_of net) ≡ fault (says (Refused q p))

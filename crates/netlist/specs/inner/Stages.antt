@@ -1,22 +1,22 @@
 -- What the stages of reading owe each other: a stage goes on with the rest of the lines, or stops at the first fault.
---   Goes a whole rest net    with the answer a: the lines are what the rest makes of them; or a is their first fault, and net is empty
---   Lined t a net            all lines read
---   Sought Rule n q s        s is what a search for the lowest node that breaks the rule q says: that node, or that all keep it
-use Rattle.std.specs.Prelude.{◌≡◌, List, ℕ}
+--   Goes r whole rest   with the result r: the lines are what the rest makes of what is filled; or r is their first fault
+--   Lined t r           all lines read
+--   Found n Says o      o is the lowest of the numbers below n of which a test says false, or there is none: it says true of all
+use Rattle.std.specs.Prelude.{◌≡◌, Bool, true, false, List, ℕ, ◌<◌, Option, None, Some, Result, Ok, Err}
 use Rattle.netlist.specs.declared.Netlist.{Netlist}
-use Rattle.netlist.specs.declared.Answer.{Answer}
-use Rattle.netlist.specs.declared.Answer.TheVariants.{Done, Refused}
-use Rattle.netlist.specs.Answer.{Said, value, at_node, says}
-use Rattle.netlist.specs.Order.{◌or_else◌, GivenAt, Otherwise}
-use Rattle.netlist.specs.Net.{empty_net}
-use Rattle.netlist.specs.Read.{Lines, fault, lines, lines_of, Lowest}
+use Rattle.netlist.specs.declared.Refusal.{Refusal}
+use Rattle.netlist.specs.declared.filled.Filled.{Filled}
+use Rattle.netlist.specs.Answer.{refusal}
+use Rattle.netlist.specs.Read.{Lines, fault, lines, lines_of}
 
-abbrev pub Goes : Answer → Lines → Lines → Netlist → Type 0
-Goes (Done n) whole rest net = whole ≡ rest
-Goes (Refused q p) whole rest net = (whole ≡ fault (says (Refused q p))) × (net ≡ empty_net)
+abbrev pub Goes : Result Filled Refusal → Lines → (Filled → Lines) → Type 0
+Goes (Ok f) whole rest = whole ≡ rest f
+Goes (Err r) whole rest = whole ≡ fault (refusal r)
 
-abbrev pub Lined : List ℕ → Answer → Netlist → Type 0
-Lined t a net = Goes a (lines_of t) (lines net) net
+abbrev pub Lined : List ℕ → Result Netlist Refusal → Type 0
+Lined t (Ok net) = lines_of t ≡ lines net
+Lined t (Err r) = lines_of t ≡ fault (refusal r)
 
-abbrev pub Sought : (ℕ → Type 0) → ℕ → ℕ → Said → Type 0
-Sought Rule n q = GivenAt (Lowest Rule n) (at_node q) or_else Otherwise (value 0)
+abbrev pub Found : ℕ → (ℕ → Bool → Type 0) → Option ℕ → Type 0
+Found n Says None = (v : ℕ) → v < n → Says v true
+Found n Says (Some v) = (v < n) × Says v false × ((u : ℕ) → u < v → Says u true)

@@ -1,36 +1,25 @@
 -- `quote::quote_net` meets its contract: 8, or the figures of the smallest period that is met.
-use Rattle.std.proofs.Common.{arith}
-use Rattle.std.proofs.lemmas.Bool.{not-true, not-false}
-use Rattle.netlist.proofs.Run.{fit_rows}
-use Rattle.quote.proofs.Call.{says_eight}
-use Rattle.quote.proofs.Figures.{counts_small, figures}
+use Rattle.std.proofs.Common.{arith, sym, ◌∙◌, length-take-le}
+use Rattle.quote.proofs.Call.{none}
+use Rattle.quote.proofs.Figures.{few_edges, counts_small, total_small, total_part, largest_part, figures}
 use Rattle.quote.proofs.quote_net.Goals as goal
 
-pub returns-then-not-tight : goal.returns-then-not-tight
-returns-then-not-tight c = let t = c.tightest-tight in says_eight c.refused.ensures (t.ensures.none (not-true t.result.met c.if-not-tight.true))
+pub returns-in_default : goal.returns-in_default
+returns-in_default c = none c.in_default.ensures
 
-pub chosen-base-requires : goal.chosen-base-requires
-chosen-base-requires c =
-    let t = c.tightest-tight in
-    let n = c.new_counts-counts in
-    ((t.ensures.tightest (not-false t.result.met c.if-not-tight.false)).labelled, n.ensures, omega (arith, (fit_rows _ c.requires.fit).1))
+pub slice_bounds-moved-end : goal.slice_bounds-moved-end
+slice_bounds-moved-end c = let few = few_edges _ c.requires in sym (length-take-le c.args.net.edges c.new_counts-counts.result (omega arith))
 
 pub total-requires : goal.total-requires
 total-requires c =
-    let t = c.tightest-tight in
-    let few = (fit_rows _ c.requires.fit).1 in
     let n = c.new_counts-counts in
-    (few, omega arith, counts_small _ _ n.result n.ensures (t.ensures.tightest (not-false t.result.met c.if-not-tight.false)).labelled)
-
-pub largest-requires : goal.largest-requires
-largest-requires c = omega (arith, (fit_rows _ c.requires.fit).1)
-
-pub bounds-base-edges : goal.bounds-base-edges
-bounds-base-edges c = omega (arith, (fit_rows _ c.requires.fit).1)
+    let few = few_edges _ c.requires in
+    total_small n.result c.args.net.edges (omega arith) few (counts_small _ _ n.result n.ensures c.in-Some.ensures.labelled)
 
 pub returns : goal.returns
 returns c =
-    let t = c.tightest-tight in
     let n = c.new_counts-counts in
-    let b = c.chosen-base in
-    figures _ _ n.result n.ensures (t.ensures.tightest (not-false t.result.met c.if-not-tight.false)) b.result b.ensures c.total.ensures c.largest.ensures
+    let e = c.args.net.edges in
+    let few = few_edges _ c.requires in
+    figures _ _ n.result n.ensures c.in-Some.ensures c.chosen-base.result c.chosen-base.ensures
+    (c.total.ensures ∙ total_part n.result e (omega arith)) (largest_part n.result e c.largest.result (omega arith) c.largest.ensures.above c.largest.ensures.least)

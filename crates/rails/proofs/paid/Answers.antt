@@ -1,10 +1,9 @@
 -- `rails::paid` meets its contract: one edge more, from the same node or from another.
-use Rattle.std.proofs.Common.{◌≡◌, ℕ, ◌+◌, ◌^◌, ◌<◌, ◌≤◌, arith, sym, subst, ◌∙◌}
+use Rattle.std.proofs.Common.{◌≡◌, ℕ, ◌+◌, ◌^◌, ◌<◌, ◌≤◌, arith, sym, subst}
 use Rattle.graph.specs.Columns.{at}
 use Rattle.netlist.specs.declared.Netlist.{Netlist}
 use Rattle.netlist.specs.Net.{graph_of, regs_of}
 use Rattle.netlist.specs.Theorems.{Fit}
-use Rattle.netlist.proofs.Run.{fit_rows}
 use Rattle.netlist.proofs.Fits.{edge_fits_means}
 use Rattle.rails.specs.inner.Shared.{Shared}
 use Rattle.rails.proofs.Shared.{shared_none, shared_other, shared_further, paid_past}
@@ -17,36 +16,15 @@ word net f e h =
     let r = edge_fits_means net.nodes (graph_of net).kind (at net.from e) (at net.to e) (at net.count e) (at net.start e) (f.edge e h) in
     (r.2, r.3)
 
-pub offset_bounds-net-e : goal.offset_bounds-net-e
-offset_bounds-net-e c = omega (arith, (fit_rows _ c.requires.0).1)
-
-pub bounds-net-e : goal.bounds-net-e
-bounds-net-e c = omega (arith, (fit_rows _ c.requires.0).1)
-
-pub bounds-net-e-2 : goal.bounds-net-e-2
-bounds-net-e-2 c = omega (arith, (fit_rows _ c.requires.0).1)
-
-pub bounds-net-e-3 : goal.bounds-net-e-3
-bounds-net-e-3 c = omega (arith, (fit_rows _ c.requires.0).1)
-
 pub loop-i-init : goal.loop-i-init
-loop-i-init c = (omega arith, shared_none _ _ _)
-
-pub bounds-net-i : goal.bounds-net-i
-bounds-net-i c = omega (arith, (fit_rows _ c.requires.0).1)
-
-pub bounds-net-i-then-net-i : goal.bounds-net-i-then-net-i
-bounds-net-i-then-net-i c = omega (arith, (fit_rows _ c.requires.0).1)
-
-pub bounds-net-i-then-net-i-2 : goal.bounds-net-i-then-net-i-2
-bounds-net-i-then-net-i-2 c = omega (arith, (fit_rows _ c.requires.0).1)
+loop-i-init c = shared_none _ _ _
 
 pub further-shared-requires : goal.further-shared-requires
 further-shared-requires c =
     let net = c.args.net.now in
     let a = word net c.requires.0 c.args.e c.requires.1 in
     let b = word net c.requires.0 c.loop-i.i (omega arith) in
-    (c.loop-i.invariant.1.within, a.0, b.0, a.1, b.1)
+    rw (c.from-count.ensures, c.from.ensures) (c.loop-i.invariant.within, a.0, b.0, a.1, b.1)
 
 pub loop-i-preserved : goal.loop-i-preserved
 loop-i-preserved c =
@@ -55,19 +33,16 @@ loop-i-preserved c =
     let R = regs_of net in
     let e = c.args.e in
     let i = c.loop-i.i in
-    let s = c.loop-i.invariant.1 in (
-      omega arith,
-      elim c.if-net-i.branch [
-        | then-net-i w ↦ subst (λ m. Shared G R e (i + 1) m) (sym w.shared-is) (shared_further G R e s w.if-net-i.true w.further-shared.ensures)
-        | else-net-i w ↦ subst (λ m. Shared G R e (i + 1) m) (sym w.shared-is) (shared_other G R e s w.if-net-i.false)
-      ],
-    )
+    let s = c.loop-i.invariant in
+    elim c.if-net-i.branch [
+      | then-net-i w ↦ subst (λ m. Shared G R e (i + 1) m) (sym w.shared-is) (shared_further G R e s w.if-net-i.true (rw (c.from-count.ensures, w.from.ensures) at w.further-shared.ensures))
+      | else-net-i w ↦ subst (λ m. Shared G R e (i + 1) m) (sym w.shared-is) (shared_other G R e s w.if-net-i.false)
+    ]
 
 pub returns : goal.returns
 returns c =
     let net = c.args.net.now in
     let e = c.args.e in
     let z : c.loop-i.i ≡ e = omega arith in
-    let s = subst (λ n. Shared (graph_of net) (regs_of net) e n c.loop-i.shared) z c.loop-i.invariant.1 in
-    let p = paid_past (graph_of net) (regs_of net) e s in
-    (c.unshared.ensures ∙ sym p, omega (arith, (word net c.requires.0 e c.requires.1).0))
+    let p = paid_past (graph_of net) (regs_of net) e (subst (λ n. Shared (graph_of net) (regs_of net) e n c.loop-i.shared) z c.loop-i.invariant) in
+    rw c.from-count.ensures (sym p, omega (arith, (word net c.requires.0 e c.requires.1).0))

@@ -1,11 +1,7 @@
 -- `rails::paid` meets its contract: the nearest `shared` registers are those that edges below i share.
-use Rattle.std.proofs.Common.{◌-◌, ◌≤◌}
 use Rattle.netlist.specs.Net.{graph_of, regs_of}
 use Rattle.rails.specs.inner.Shared.{Shared}
 use Rattle.rails.proofs.paid.Given as goal
 
 abbrev pub invariant-loop-i : goal.invariant-loop-i
-invariant-loop-i l = (l.i ≤ l.e) × Shared (graph_of l.net) (regs_of l.net) l.e l.i l.shared
-
-abbrev pub decreases-loop-i : goal.decreases-loop-i
-decreases-loop-i l = l.e - l.i
+invariant-loop-i l = Shared (graph_of l.net) (regs_of l.net) l.e l.i l.shared

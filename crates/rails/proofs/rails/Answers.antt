@@ -1,22 +1,25 @@
 -- `rails::rails` meets its contract: the text is read, then 12, then each node's count is put.
-use Rattle.std.proofs.Common.{arith, []}
+use Rattle.std.proofs.Common.{◌≡◌, ◌++◌, length, drop, arith, rules, ap}
+use Rattle.netlist.proofs.Exits.{left_by}
 use Rattle.netlist.proofs.Run.{fit_rows}
-use Rattle.rails.proofs.Answered.{reads_fit, rails_reads, rails_stop, rails_short, rails_done}
+use Rattle.rails.proofs.Answered.{reads_fit, rails_stop, rails_short, rails_done}
 use Rattle.rails.proofs.rails.Goals as goal
 
-pub returns-in_default : goal.returns-in_default
-returns-in_default c = rails_stop _ _ _ _ c.read-reading.ensures c.in_default.is
+pub returns-in_err-net : goal.returns-in_err-net
+returns-in_err-net c = rw (left_by c.from_residual.ensures) (rails_stop _ _ _ c.in_err-net.ensures)
 
 pub returns-then-table-nodes : goal.returns-then-table-nodes
-returns-then-table-nodes c = rails_short _ _ _ _ c.read-reading.ensures c.in-Done.is (omega arith)
+returns-then-table-nodes c = rails_short _ _ _ c.in_ok-net.ensures (omega arith)
 
-pub count_all-b-requires : goal.count_all-b-requires
-count_all-b-requires c = reads_fit (rails_reads _ [] _ _ c.read-reading.ensures c.in-Done.is)
+pub count_all-bill-requires : goal.count_all-bill-requires
+count_all-bill-requires c = reads_fit c.in_ok-net.ensures
 
-pub put_rails-requires : goal.put_rails-requires
-put_rails-requires c =
-    let fit = reads_fit (rails_reads _ [] _ _ c.read-reading.ensures c.in-Done.is) in
-    (omega (arith, (fit_rows _ fit).0), omega arith)
+pub shared_ref_as_front-copy_from_slice : goal.shared_ref_as_front-copy_from_slice
+shared_ref_as_front-copy_from_slice c = omega (arith, (fit_rows _ (reads_fit c.in_ok-net.ensures)).0)
 
 pub returns : goal.returns
-returns c = rails_done _ _ _ _ c.read-reading.ensures c.in-Done.is (omega arith) c.count_all-b.ensures c.put_rails.ensures
+returns c =
+    let few = (fit_rows _ (reads_fit c.in_ok-net.ensures)).0 in
+    let wide : length c.count_all-bill.result.rails ≡ 512 = search rules in
+    rails_done _ _ _ c.in_ok-net.ensures (omega arith) c.count_all-bill.ensures (omega (arith, few, wide))
+    (rw (← c.from-nodes.ensures) (ap (λ l. l ++ drop c.from-nodes.result c.args.table.now) c.copy_from_slice.ensures.after))

@@ -1,5 +1,5 @@
 -- `retime::moved_by` meets its contract.
-use Rattle.std.proofs.Common.{◌≡◌, ℕ, ◌≤◌, List, length, get_or, arith, rules, refl, sym, ap, subst}
+use Rattle.std.proofs.Common.{◌≡◌, ℕ, ◌≤◌, None, List, length, get_or, arith, rules, refl, sym, ap, subst}
 use Rattle.netlist.specs.declared.Netlist.{Netlist}
 use Rattle.netlist.specs.Answer.{value}
 use Rattle.netlist.specs.Circuit.{SoundIn}
@@ -10,29 +10,26 @@ use Rattle.theory.specs.Move.{chosen_in}
 use Rattle.theory.specs.Retimer.{TooMany}
 use Rattle.moves.specs.inner.Labels.{lags_of, Labelled, Counts, Wide}
 use Rattle.moves.specs.inner.Moving.{Moving}
-use Rattle.choose.specs.inner.Chosen.{BestWords, Chosen}
 use Rattle.moves.proofs.Labels.{low_edges, wide_edge, wide_none}
 use Rattle.moves.proofs.Words.{words_short}
 use Rattle.retime.specs.Retime.{MovedBy}
 use Rattle.retime.proofs.Order.{wide, moved}
-use Rattle.retime.proofs.Stages.{moves_refused}
 use Rattle.retime.proofs.moved_by.Goals as goal
 
 -- What is known where no count is above 32.
-moving : {net : Netlist} {lab counts : List ℕ} {r : ℕ} → Steppable net × Sure net × SoundIn net × Labelled net lab → Counts net lab counts → net.edges ≤ length counts → Wide counts net.edges r
-    → net.edges ≤ r → Moving net lab counts
-moving (steppable, sure, sound, labelled) counted rows w h =
-    record { steppable = steppable; sure = sure; sound = sound; labelled = labelled; counted = counted; count_rows = rows; narrow = λ e i. w.low e (omega arith) }
+moving : {net : Netlist} {lab counts : List ℕ} → Steppable net × Sure net × SoundIn net × Labelled net lab → Counts net lab counts → net.edges ≤ length counts → Wide counts net.edges None
+    → Moving net lab counts
+moving (steppable, sure, sound, labelled) counted rows narrow =
+    record { steppable = steppable; sure = sure; sound = sound; labelled = labelled; counted = counted; count_rows = rows; narrow = narrow }
 
-pub too_wide-wide-requires : goal.too_wide-wide-requires
-too_wide-wide-requires c = omega (arith, low_edges _ _ c.requires.steppable.3)
+pub too_wide-requires : goal.too_wide-requires
+too_wide-requires c = omega (arith, low_edges _ _ c.requires.steppable.3)
 
-pub returns-then-wide-edges : goal.returns-then-wide-edges
-returns-then-wide-edges c =
+pub returns-in-Some : goal.returns-in-Some
+returns-in-Some c =
     let net = c.args.net in
     let lab = c.args.lab.now in
-    let w = wide_edge net lab c.new_counts-counts.result c.too_wide-wide.result c.new_counts-counts.ensures c.too_wide-wide.ensures c.if-wide-edges.true in
-    moves_refused net (lags_of lab) (wide net (lags_of lab) 0 c.requires.least_lags c.too_wide-wide.result w) _
+    wide net (lags_of lab) 0 c.requires.least_lags c.in-Some.wide (wide_edge net lab c.new_counts-counts.result c.in-Some.wide c.new_counts-counts.ensures c.in-Some.ensures)
 
 pub chosen-base-requires : goal.chosen-base-requires
 chosen-base-requires c = (c.requires.steppable.3, c.new_counts-counts.ensures, omega (arith, low_edges _ _ c.requires.steppable.3))
@@ -40,9 +37,9 @@ chosen-base-requires c = (c.requires.steppable.3, c.new_counts-counts.ensures, o
 pub bounds-base-edges : goal.bounds-base-edges
 bounds-base-edges c = omega (arith, low_edges _ _ c.requires.steppable.3)
 
-pub choose-c-requires : goal.choose-c-requires
-choose-c-requires c = record {
-  moving = moving c.requires.steppable c.new_counts-counts.ensures (omega (arith, low_edges _ _ c.requires.steppable.3)) c.too_wide-wide.ensures c.if-wide-edges.false;
+pub choose-requires : goal.choose-requires
+choose-requires c = record {
+  moving = moving c.requires.steppable c.new_counts-counts.ensures (omega (arith, low_edges _ _ c.requires.steppable.3)) c.in_default.ensures;
   based = c.chosen-base.ensures;
   base_rows = omega (arith, low_edges _ _ c.requires.steppable.3);
   chosen = refl;
@@ -51,12 +48,10 @@ choose-c-requires c = record {
 
 pub moved-requires : goal.moved-requires
 moved-requires c =
-    let net = c.args.net in
-    let lab = c.args.lab.now in
-    let words = c.choose-c.result.words in
+    let words = c.in-Some-choose.words in
     let rows : length words ≡ 1024 = search rules in
-    let b : BestWords net (lags_of lab) words = subst (λ b. Chosen net (lags_of lab) b words) c.if-not-c.false c.choose-c.ensures in (
-      moving c.requires.steppable c.new_counts-counts.ensures (omega (arith, low_edges _ _ c.requires.steppable.3)) c.too_wide-wide.ensures c.if-wide-edges.false,
+    let b = c.in-Some-choose.ensures in (
+      moving c.requires.steppable c.new_counts-counts.ensures (omega (arith, low_edges _ _ c.requires.steppable.3)) c.in_default.ensures,
       words_short _ _ b.number _ (omega (arith, low_edges _ _ c.requires.steppable.3)) b.its_words,
     )
 
@@ -64,13 +59,12 @@ pub returns : goal.returns
 returns c =
     let net = c.args.net in
     let lab = c.args.lab.now in
-    let words = c.choose-c.result.words in
-    let b : BestWords net (lags_of lab) words = subst (λ b. Chosen net (lags_of lab) b words) c.if-not-c.false c.choose-c.ensures in
+    let b = c.in-Some-choose.ensures in
     let all : get_or c.chosen-base.result net.edges 0 ≡ chosen_in (graph_of net) (regs_of net).count (lags_of lab) = c.chosen-base.ensures _ (omega arith) in
-    let narrow = wide_none net lab c.new_counts-counts.result c.too_wide-wide.result c.new_counts-counts.ensures c.too_wide-wide.ensures (λ h. omega (arith, c.if-wide-edges.false)) in
+    let narrow = wide_none net lab c.new_counts-counts.result c.new_counts-counts.ensures c.in_default.ensures in
     let few : ¬ TooMany (graph_of net) (regs_of net).count (lags_of lab) = λ h. omega (arith, all) in
     record {
       choice = b.number;
       answer = subst (MovedBy net (lags_of lab) b.number) (ap value (sym all)) (moved net (lags_of lab) b.number c.requires.least_lags narrow few b.best);
-      moved = λ k z. c.moved.ensures b.number b.its_words;
+      moved = c.moved.ensures b.number b.its_words;
     }

@@ -5,28 +5,31 @@ use Rattle.retime.specs.Retime.{Room}
 use Rattle.retime.proofs.Call.{short, none}
 use Rattle.retime.proofs.Stages.{labelled}
 use Rattle.retime.proofs.retime_net.Goals as goal
+use Rattle.retime.proofs.retime_net.Goals.{then-out-written_len-via-then-out-written_len, then-out-written_len-via-else-out-written_len+then-lags-nodes}
 
 pub returns-then-out-written_len : goal.returns-then-out-written_len
-returns-then-out-written_len c = let a = c.args in short a.out.now a.lags.now a.net (inl (omega (arith, c.written_len.ensures)))
-
-pub returns-then-lags-nodes : goal.returns-then-lags-nodes
-returns-then-lags-nodes c = let a = c.args in short a.out.now a.lags.now a.net (inr c.if-lags-nodes.true)
-
-pub least-labels-requires : goal.least-labels-requires
-least-labels-requires c = (read_sure _ c.args.net c.requires, omega arith)
-
-pub returns-then-not-labels : goal.returns-then-not-labels
-returns-then-not-labels c =
+returns-then-out-written_len c =
     let a = c.args in
-    let room : Room a.out.now a.lags.now a.net = record { text = omega (arith, c.written_len.ensures); table = c.if-lags-nodes.false } in
-    none a.net room (c.least-labels.ensures.none c.if-not-labels.true)
+    elim c.then-out-written_len.branch [
+      | then-out-written_len-via-then-out-written_len w ↦ short a.out.now a.lags.now a.net (inl (omega (arith, c.written_len.ensures)))
+      | then-out-written_len-via-else-out-written_len+then-lags-nodes w ↦ short a.out.now a.lags.now a.net (inr (omega arith))
+    ]
+
+pub least-requires : goal.least-requires
+least-requires c = (read_sure _ c.args.net c.requires, omega arith)
+
+pub returns-in_default : goal.returns-in_default
+returns-in_default c =
+    let a = c.args in
+    let room : Room a.out.now a.lags.now a.net = record { text = omega (arith, c.written_len.ensures); table = omega arith } in
+    none a.net room (rw (← c.from.ensures) c.in_default.ensures)
 
 pub retime_by-requires-clause-reads : goal.retime_by-requires-clause-reads
 retime_by-requires-clause-reads c =
     let a = c.args in
-    let l = c.least-labels.ensures.least c.if-not-labels.false in
-    let rows : length c.least-labels.result.lab ≡ 512 = search rules in
-    (c.requires, labelled _ a.net c.least-labels.result.lab c.requires rows c.least-labels.ensures.small l, l)
+    let l = rw c.from.ensures at c.in-Some.ensures in
+    let rows : length c.in-Some.lab ≡ 512 = search rules in
+    (c.requires, labelled _ a.net c.in-Some.lab c.requires rows l.small l.least, l.least)
 
 pub retime_by-requires-clause-room : goal.retime_by-requires-clause-room
-retime_by-requires-clause-room c = record { text = omega (arith, c.written_len.ensures); table = c.if-lags-nodes.false }
+retime_by-requires-clause-room c = record { text = omega (arith, c.written_len.ensures); table = omega arith }

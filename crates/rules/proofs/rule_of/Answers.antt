@@ -1,14 +1,15 @@
--- `rules::rule_of` meets its contract: one test over the whole table; past it the rule is that of the last kind.
-use Rattle.std.proofs.Common.{arith, refl}
+-- `rules::rule_of` meets its contract: past the last kind the rule is the last one.
+use Rattle.std.proofs.Common.{arith, ◌≡◌, ap, ◌∙◌, ℕ, ◌<◌}
 use borrow.Author.Tests.{le-ltb}
 use Rattle.rules.specs.Rules.{rule_of}
-use Rattle.rules.proofs.Tables.{table}
 use Rattle.rules.proofs.rule_of.Goals as goal
 
-pub returns-then-kind-gt10 : goal.returns-then-kind-gt10
+past : (k : ℕ) → 10 < k → rule_of 10 ≡ rule_of k
 unfolding rule_of
-returns-then-kind-gt10 c = let k = c.args.kind in rw (le-ltb k 1 (omega arith), le-ltb k 4 (omega arith), le-ltb k 10 (omega arith), le-ltb k 2 (omega arith))
+past k h = rw (le-ltb k 1 (omega arith), le-ltb k 4 (omega arith), le-ltb k 10 (omega arith), le-ltb k 2 (omega arith))
 
-pub returns : goal.returns
-unfolding rule_of
-returns c = table rule_of _ 11 _ refl c.args.kind (omega arith)
+pub returns-in-Ok : goal.returns-in-Ok
+returns-in-Ok c = c.rule.ensures ∙ ap rule_of c.in-Ok.ensures
+
+pub returns-in-Err : goal.returns-in-Err
+returns-in-Err c = c.rule-in-Err.ensures ∙ past c.args.kind c.in-Err.ensures.1

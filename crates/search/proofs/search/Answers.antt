@@ -6,4 +6,4 @@ pub search_lists-requires-clause-fillable : goal.search_lists-requires-clause-fi
 search_lists-requires-clause-fillable c = none_fillable c.requires.right_program
 
 pub returns : goal.returns
-returns c = solves_choice _ _ _ _ c.search_lists.result.found c.search_lists.result.choice c.search_lists.ensures
+returns c = solves_choice _ _ _ _ c.search_lists.result c.search_lists.ensures

@@ -1,6 +1,6 @@
 -- A program: cells in a row, each a gate over chosen bits and earlier cells. A choice of k bits is a number, first bit highest.
 -- A list of f + k bits is one too: its first f bits are fillings, which are read off cells, its last k bits the choice. The column `fill`, of f places, says what a filling is:
--- 0 nothing asks for it, i + 1 the value of cell i.
+-- None nothing asks for it, Some i the value of cell i.
 --   Program             its columns: the kind of each cell's gate, where the cell's operands begin, and all operands
 --   program_of           these columns together
 --   look k c vals x     what the operand x shows: below 32 the chosen bit x, else the value of cell x − 32
@@ -8,6 +8,7 @@
 --   values_to, value_at  under the choice c of k bits: the values of the first n cells, the value of cell i
 --   RightProgram        the gates keep their rules, and their operands are bits below k and earlier cells
 --   Owes                what is due: the number 2 i + x says that cell i must give x; the dues are in rows, each a run of one edge's moved clocks
+--   asked fill x        what asks for filling x: a cell, or nothing
 --   GivesDues           every cell gives what is due of it
 --   Fillable            the column `fill` asks for cells, and a list has at most 24 bits
 --   FillsTo             a list gives each filling that is asked for the value of its cell
@@ -15,7 +16,7 @@
 --   Solves              the best choice under which every cell gives what is due of it, or that there is none
 --   SolvesLists         the best list that fulfils, or that none does
 --   Levelled            cells are in rising order of the leading bits that they depend on; those of level m, which see no bit from m on, begin at levels(m)
-use Rattle.std.specs.Prelude.{◌≡◌, Bool, true, false, cond, ◌⊎◌, List, [], ◌∷◌, ◌++◌, map, ℕ, zero, suc, ◌+◌, ◌-◌, ◌^◌, ◌/◌, ◌%◌, ◌<◌, ◌≤◌, ltb, length}
+use Rattle.std.specs.Prelude.{◌≡◌, Option, Some, None, cond, ◌⊎◌, List, [], ◌∷◌, ◌++◌, map, ℕ, zero, suc, ◌+◌, ◌-◌, ◌^◌, ◌/◌, ◌%◌, ◌<◌, ◌≤◌, ltb, length, get_or}
 use Rattle.theory.specs.Gate.{gate}
 use Rattle.theory.specs.Move.{digit, Prefers}
 use Rattle.graph.specs.Columns.{at}
@@ -70,26 +71,27 @@ pub record Owes (cells : ℕ) (due begin : List ℕ) (edges : ℕ) : Type 0 wher
 abbrev pub GivesDues : ℕ → Program → List ℕ → ℕ → ℕ → Type 0
 GivesDues k P due total c = (x : ℕ) → x < total → at due x % 2 ≡ value_at P k c (at due x / 2)
 
-pub record Fillable (cells k : ℕ) (fill : List ℕ) : Type 0 where
+abbrev pub asked : List (Option ℕ) → ℕ → Option ℕ
+asked fill x = get_or fill x None
+
+pub record Fillable (cells k : ℕ) (fill : List (Option ℕ)) : Type 0 where
   pub few : length fill + k ≤ 24
-  pub cell : (x : ℕ) → x < length fill → at fill x ≤ cells
+  pub cell : (x i : ℕ) → asked fill x ≡ Some i → i < cells
 
-abbrev pub FillsTo : ℕ → Program → List ℕ → ℕ → Type 0
-FillsTo k P fill c = (x : ℕ) → x < length fill → (at fill x ≡ 0) ⊎ (digit (length fill + k) c x ≡ value_at P k (c % 2 ^ k) (at fill x - 1))
+abbrev pub FillsTo : ℕ → Program → List (Option ℕ) → ℕ → Type 0
+FillsTo k P fill c = (x i : ℕ) → asked fill x ≡ Some i → digit (length fill + k) c x ≡ value_at P k (c % 2 ^ k) i
 
-abbrev pub Fulfils : ℕ → Program → List ℕ → ℕ → List ℕ → ℕ → Type 0
+abbrev pub Fulfils : ℕ → Program → List ℕ → ℕ → List (Option ℕ) → ℕ → Type 0
 Fulfils k P due total fill c = GivesDues k P due total (c % 2 ^ k) × FillsTo k P fill c
 
--- found: c is the best choice; else there is none.
-abbrev pub Solves : ℕ → Program → List ℕ → ℕ → Bool → ℕ → Type 0
-Solves k P due total true c = (c < 2 ^ k) × GivesDues k P due total c × ((d : ℕ) → Prefers d c → ¬ GivesDues k P due total d)
-Solves k P due total false c = (d : ℕ) → d < 2 ^ k → ¬ GivesDues k P due total d
+abbrev pub Solves : ℕ → Program → List ℕ → ℕ → Option ℕ → Type 0
+Solves k P due total (Some c) = (c < 2 ^ k) × GivesDues k P due total c × ((d : ℕ) → Prefers d c → ¬ GivesDues k P due total d)
+Solves k P due total None = (d : ℕ) → d < 2 ^ k → ¬ GivesDues k P due total d
 
--- found: c is the best list that fulfils; else there is none.
-abbrev pub SolvesLists : ℕ → Program → List ℕ → ℕ → List ℕ → Bool → ℕ → Type 0
-SolvesLists k P due total fill true c =
+abbrev pub SolvesLists : ℕ → Program → List ℕ → ℕ → List (Option ℕ) → Option ℕ → Type 0
+SolvesLists k P due total fill (Some c) =
     (c < 2 ^ (length fill + k)) × Fulfils k P due total fill c × ((d : ℕ) → d < 2 ^ (length fill + k) → Prefers d c → ¬ Fulfils k P due total fill d)
-SolvesLists k P due total fill false c = (d : ℕ) → d < 2 ^ (length fill + k) → ¬ Fulfils k P due total fill d
+SolvesLists k P due total fill None = (d : ℕ) → d < 2 ^ (length fill + k) → ¬ Fulfils k P due total fill d
 
 pub record Levelled (cells k : ℕ) (P : Program) (levels : List ℕ) : Type 0 where
   pub rows : suc k < length levels

@@ -1,7 +1,7 @@
 -- What the functions of the search promise each other. Signals are what each operand shows: the chosen bit x at x, the value of cell i at 32 + i.
 --   next_after c b      the first choice above c that differs from it in a bit from place b up
 --   ChoiceShown k c sig  the first k signals are the bits of the choice c
---   Evaluator           a program made ready: its gates' truth words, the table that picks their bits, and its operands
+--   Evaluator           a program made ready: its gates' truth words, and its operands
 --   evaluator_of        these columns together; program_in is the program, once the kinds of its gates are known
 --   Truthful            each cell has a truth word of its gate
 --   Executable          a right program made ready
@@ -11,22 +11,22 @@
 --   EvaluatedTo         what it does: under whatever choice that was, those below r are, and r is the larger of `start` and `end`
 --   Advanced            what `advance` does: the bits are those of the first choice that differs in one of the first m; it agrees on the first r − 1
 --   Jumped              what `jump` does: that choice, and the first cell and the first due that depend on a changed bit
+--   filled sig p        a filling: what the cell that asks for it shows, or 0
 --   ListOf              the list of a choice: its fillings are read off their cells, and one that nothing asks for is 0
 --   Better              the better of the best list so far and another: neither is preferred to it
 --   Plan                what the search is given: a right program whose cells are ordered by level, and what is due of them in rows
---   Fresh               its columns: room for the truth words and the signals, and every chosen bit 0
+--   Fresh               its signals: room for them, and every chosen bit 0
 --   cells_of             how many cells there are: the last level ends with them
 --   Searchable          what can be searched: a right program, levelled, what is due of it, and what fillings ask for
 --   RowsPlanned         what `plan` does: that plan, and the rows hold what is due
-use Rattle.std.specs.Prelude.{◌≡◌, true, ◌⊎◌, List, ℕ, suc, ◌+◌, ◌-◌, ◌*◌, ◌^◌, ◌/◌, ◌%◌, ◌<◌, ◌≤◌, length}
+use Rattle.std.specs.Prelude.{◌≡◌, Option, Some, None, ◌⊎◌, List, ℕ, suc, ◌+◌, ◌-◌, ◌*◌, ◌^◌, ◌/◌, ◌%◌, ◌<◌, ◌≤◌, length}
 use Rattle.theory.specs.Move.{digit, Prefers}
 use Rattle.graph.specs.Columns.{at}
-use Rattle.gates.specs.inner.Gates.{Reckons, Table}
-use Rattle.search.specs.declared.Choice.{Choice}
+use Rattle.gates.specs.inner.Gates.{Reckons}
 use Rattle.search.specs.declared.Size.{Size}
 use Rattle.search.specs.declared.choices.Extent.{Extent}
 use Rattle.search.specs.declared.choices.Turn.{Turn}
-use Rattle.search.specs.inner.Program.{Program, program_of, RightProgram, Owes, Fillable, Levelled, value_at}
+use Rattle.search.specs.inner.Program.{Program, program_of, RightProgram, Owes, asked, Fillable, Levelled, value_at}
 use Rattle.search.specs.inner.Rows.{Level, Rows, SameDues}
 
 -- ── Cells ───────────────────────────────────────────────────────────────────────────────────
@@ -36,12 +36,11 @@ ChoiceShown k c sig = (x : ℕ) → x < k → at sig x ≡ digit k c x
 
 pub record Evaluator : Type 0 where
   pub truth : List ℕ
-  pub index : List ℕ
   pub first : List ℕ
   pub operand : List ℕ
 
-abbrev pub evaluator_of : List ℕ → List ℕ → List ℕ → List ℕ → Evaluator
-evaluator_of truth index first operand = record { truth = truth; index = index; first = first; operand = operand }
+abbrev pub evaluator_of : List ℕ → List ℕ → List ℕ → Evaluator
+evaluator_of truth first operand = record { truth = truth; first = first; operand = operand }
 
 abbrev pub program_in : Evaluator → List ℕ → Program
 program_in E kind = program_of kind E.first E.operand
@@ -51,7 +50,6 @@ Truthful cells kind first truth = (i : ℕ) → i < cells → Reckons (at kind i
 
 pub record Executable (cells k : ℕ) (kind : List ℕ) (E : Evaluator) : Type 0 where
   pub program : RightProgram cells k (program_in E kind)
-  pub table : Table E.index
   pub truth_rows : cells ≤ length E.truth
   pub truths : Truthful cells kind E.first E.truth
 
@@ -104,17 +102,19 @@ pub record Jumped (c k m : ℕ) (levels rows old sig : List ℕ) (t : Turn) : Ty
 
 -- ── Lists ───────────────────────────────────────────────────────────────────────────────────
 
-pub record ListOf (k : ℕ) (fill sig : List ℕ) (c r : ℕ) : Type 0 where
+abbrev pub filled : List ℕ → Option ℕ → ℕ
+filled sig (Some i) = at sig (32 + i)
+filled sig None = 0
+
+pub record ListOf (k : ℕ) (fill : List (Option ℕ)) (sig : List ℕ) (c r : ℕ) : Type 0 where
   pub few : r < 2 ^ (length fill + k)
   pub choice : r % 2 ^ k ≡ c
-  pub free : (x : ℕ) → x < length fill → at fill x ≡ 0 → digit (length fill + k) r x ≡ 0
-  pub read : (x : ℕ) → x < length fill → 0 < at fill x → digit (length fill + k) r x ≡ at sig (31 + at fill x)
+  pub digits : (x : ℕ) → x < length fill → digit (length fill + k) r x ≡ filled sig (asked fill x)
 
-pub record Better (best : Choice) (list : ℕ) (r : Choice) : Type 0 where
-  pub found : r.found ≡ true
-  pub one : (r.choice ≡ list) ⊎ ((best.found ≡ true) × (r.choice ≡ best.choice))
-  pub over_list : ¬ Prefers list r.choice
-  pub over_best : best.found ≡ true → ¬ Prefers best.choice r.choice
+pub record Better (best : Option ℕ) (list r : ℕ) : Type 0 where
+  pub one : (r ≡ list) ⊎ (best ≡ Some r)
+  pub over_list : ¬ Prefers list r
+  pub over_best : (x : ℕ) → best ≡ Some x → ¬ Prefers x r
 
 -- ── The search ──────────────────────────────────────────────────────────────────────────────
 
@@ -132,21 +132,21 @@ pub record Plan (e : Extent) (P : Program) (level row left : List ℕ) : Type 0 
   pub cell : (d : ℕ) → d < e.dues → at row d / 2 < e.cells
   pub in_rows : Rows (suc e.bits) level row left e.rows
 
-abbrev pub Fresh : ℕ → List ℕ → List ℕ → Type 0
-Fresh cells truth sig = (cells ≤ length truth) × (32 + cells ≤ length sig) × ((x : ℕ) → x < 32 → at sig x ≡ 0)
+abbrev pub Fresh : ℕ → List ℕ → Type 0
+Fresh cells sig = (32 + cells ≤ length sig) × ((x : ℕ) → x < 32 → at sig x ≡ 0)
 
 abbrev pub cells_of : Size → ℕ
 cells_of s = at s.levels (suc s.bits)
 
-pub record Searchable (s : Size) (P : Program) (due begin fill : List ℕ) : Type 0 where
+pub record Searchable (s : Size) (P : Program) (due begin : List ℕ) (edges : ℕ) (fill : List (Option ℕ)) : Type 0 where
   pub program : RightProgram (cells_of s) s.bits P
   pub levelled : Levelled (cells_of s) s.bits P s.levels
-  pub owes : Owes (cells_of s) due begin s.edges
+  pub owes : Owes (cells_of s) due begin edges
   pub fillable : Fillable (cells_of s) s.bits fill
 
 -- Whatever right program this is.
-pub record RowsPlanned (s : Size) (due begin level row left : List ℕ) (e : Extent) : Type 0 where
+pub record RowsPlanned (s : Size) (due begin : List ℕ) (edges : ℕ) (level row left : List ℕ) (e : Extent) : Type 0 where
   pub bits : e.bits ≡ s.bits
   pub cells : e.cells ≡ cells_of s
   pub plan : (P : Program) → RightProgram (cells_of s) s.bits P → Levelled (cells_of s) s.bits P s.levels → Plan e P level row left
-  pub same : SameDues due (at begin s.edges) row e.dues
+  pub same : SameDues due (at begin edges) row e.dues

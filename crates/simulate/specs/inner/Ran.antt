@@ -19,7 +19,6 @@ pub record Steppable (net : Netlist) : Type 0 where
   pub no_loop : ¬ LoopIn net
 
 pub record Runnable (net : Netlist) (n : ℕ) (words vectors out : List ℕ) : Type 0 where
-  pub steppable : Steppable net
   pub whole : length vectors ≡ n * inputs net
   pub vector_bits : only_bits vectors ≡ true
   pub fits : words_fit net words net.edges ≡ true

@@ -6,4 +6,4 @@ pub solve_lists-requires-clause-fillable : goal.solve_lists-requires-clause-fill
 solve_lists-requires-clause-fillable c = none_fillable c.requires.right_program
 
 pub returns : goal.returns
-returns c = solves_choice _ _ _ _ c.solve_lists.result.found c.solve_lists.result.choice c.solve_lists.ensures
+returns c = solves_choice _ _ _ _ c.solve_lists.result c.solve_lists.ensures

@@ -3,26 +3,25 @@
 --   Layers              what the numbering is given: so many cells, where the operands of each begin, all operands, and a level for each cell
 --   layers_of           these together
 --   Layered             the level of a cell is no lower than that of a cell that it needs
---   Missing             a cell of the same level that cell i needs and that has no number yet, or that there is none
+--   MissingCell, Missing     a cell of the same level that cell i needs and that has no number yet; that cell, or that there is none
 --   Numbered            n numbers are given: to all cells of levels below m and some of level m, each after what it needs
---   Extended            so, and the numbers that were given before have stayed
 --   LevelNumbered       all cells of level m have numbers
 --   Waiting             a stack of h cells that wait for their numbers, each needed by the one below it; cell i is at the bottom
 --   LevelsBegun         levels below m begin where they should
---   CanNumber           what `number_cells` asks: where operands and dues stand, and that no cell has a number yet
 --   Paired              every cell has a number below `cells`, and every such number its cell
 --   Ranked              so, each cell after those that it needs, and `levels` says where each level begins
 --   ins first i         how many operands cell i has
 --   renumbered id x     the operand x under the new numbers
+--   Renumberable        the operand x is a chosen bit or a cell that has a number
 --   Copied              the operands at the places from lo up to hi of one program are, renumbered, those of another from `start` on
 --   ProgramRenumbered          the program of the first n cells under the new numbers
 --   Redue               the dues under the new numbers
---   Refilled, Refill    what a filling asks for under the new numbers, and what the first n do
-use Rattle.std.specs.Prelude.{◌≡◌, cond, ◌⊎◌, List, ℕ, suc, ◌+◌, ◌-◌, ◌*◌, ◌/◌, ◌%◌, ◌<◌, ◌≤◌, ltb, length}
+--   refilled, Refill    what asks for a filling under the new numbers, and for all of them
+use Rattle.std.specs.Prelude.{Option, Some, None, ◌≡◌, cond, List, ℕ, suc, ◌+◌, ◌-◌, ◌*◌, ◌/◌, ◌%◌, ◌<◌, ◌≤◌, ltb, Option, Some, None, length}
 use Rattle.graph.specs.Columns.{at}
 use Rattle.graph.specs.inner.Lists.{Appended}
-use Rattle.search.specs.inner.Program.{Program}
-use Rattle.solve.specs.inner.Parts.{OperandsWired, BitsBelow}
+use Rattle.search.specs.inner.Program.{Program, asked}
+use Rattle.solve.specs.inner.Parts.{OperandsWired}
 
 -- ── Numbers ─────────────────────────────────────────────────────────────────────────────────
 
@@ -41,10 +40,15 @@ pub record Layered (L : Layers) : Type 0 where
   pub above : (i j : ℕ) → i < L.cells → at L.first i ≤ j → j < at L.first (suc i) → 32 ≤ at L.operand j
       → at L.span (at L.operand j - 32) ≤ at L.span i
 
-pub record Missing (L : Layers) (id : List ℕ) (i r : ℕ) : Type 0 where
-  pub some : r < 12288 → (r < i) × (at L.span r ≡ at L.span i) × (at id r ≡ 12288)
-  pub none : 12288 ≤ r → (j : ℕ) → at L.first i ≤ j → j < at L.first (suc i) → 32 ≤ at L.operand j
-      → at L.span (at L.operand j - 32) ≡ at L.span i → ¬ (at id (at L.operand j - 32) ≡ 12288)
+pub record MissingCell (L : Layers) (id : List ℕ) (i r : ℕ) : Type 0 where
+  pub below : r < i
+  pub same_level : at L.span r ≡ at L.span i
+  pub free : at id r ≡ 12288
+
+abbrev pub Missing : Layers → List ℕ → ℕ → Option ℕ → Type 0
+Missing L id i (Some r) = MissingCell L id i r
+Missing L id i None = (j : ℕ) → at L.first i ≤ j → j < at L.first (suc i) → 32 ≤ at L.operand j
+    → at L.span (at L.operand j - 32) ≡ at L.span i → ¬ (at id (at L.operand j - 32) ≡ 12288)
 
 pub record Numbered (L : Layers) (m n : ℕ) (id code : List ℕ) : Type 0 where
   pub few : n ≤ L.cells
@@ -52,17 +56,11 @@ pub record Numbered (L : Layers) (m n : ℕ) (id code : List ℕ) : Type 0 where
   pub code_rows : L.cells ≤ length code
   pub cell : (q : ℕ) → q < n → at code q < L.cells
   pub number : (q : ℕ) → q < n → at id (at code q) ≡ q
-  pub each : (i : ℕ) → i < L.cells → (at id i ≡ 12288) ⊎ ((at id i < n) × (at code (at id i) ≡ i))
+  pub each : (i : ℕ) → i < L.cells → ¬ (at id i ≡ 12288) → (at id i < n) × (at code (at id i) ≡ i)
   pub sources : (i j : ℕ) → i < L.cells → at id i < n → at L.first i ≤ j → j < at L.first (suc i) → 32 ≤ at L.operand j
       → at id (at L.operand j - 32) < at id i
   pub lower : (i : ℕ) → i < L.cells → at L.span i < m → at id i < n
   pub level : (q : ℕ) → q < n → at L.span (at code q) ≤ m
-
--- From n numbers to r; `old` is the column `code` as it was.
-pub record Extended (L : Layers) (m n r : ℕ) (old id code : List ℕ) : Type 0 where
-  pub numbered : Numbered L m r id code
-  pub more : n ≤ r
-  pub kept : (q : ℕ) → q < n → at code q ≡ at old q
 
 abbrev pub LevelNumbered : Layers → ℕ → ℕ → List ℕ → Type 0
 LevelNumbered L m n id = (i : ℕ) → i < L.cells → at L.span i ≡ m → at id i < n
@@ -78,15 +76,6 @@ pub record LevelsBegun (m n : ℕ) (span code levels : List ℕ) : Type 0 where
   pub within : (a : ℕ) → a < m → at levels a ≤ n
   pub climbs : (a : ℕ) → suc a < m → at levels a ≤ at levels (suc a)
   pub low : (a q : ℕ) → a < m → q < at levels a → at span (at code q) < a
-
-pub record CanNumber (cells k : ℕ) (first operand due id code : List ℕ) : Type 0 where
-  pub wired : OperandsWired cells first operand
-  pub bits : BitsBelow cells k first operand
-  pub few_bits : k ≤ 24
-  pub cell : (x : ℕ) → x < length due → at due x / 2 < cells
-  pub id_rows : cells ≤ length id
-  pub code_rows : cells ≤ length code
-  pub none : (i : ℕ) → i < cells → at id i ≡ 12288
 
 pub record Paired (cells : ℕ) (id code : List ℕ) : Type 0 where
   pub id_rows : cells ≤ length id
@@ -114,6 +103,10 @@ ins first i = at first (suc i) - at first i
 unfoldable pub renumbered : List ℕ → ℕ → ℕ
 renumbered id x = cond (ltb x 32) x (32 + at id (x - 32))
 
+-- A cell has a number.
+abbrev pub Renumberable : List ℕ → ℕ → Type 0
+Renumberable id x = 32 ≤ x → (x - 32 < length id) × (at id (x - 32) < 12288)
+
 abbrev pub Copied : List ℕ → List ℕ → ℕ → ℕ → ℕ → List ℕ → List ℕ → Type 0
 Copied operand id lo hi start old operands = Appended (λ j. renumbered id (at operand j)) old operands lo hi start
 
@@ -128,9 +121,9 @@ pub record ProgramRenumbered (n : ℕ) (P : Program) (id code : List ℕ) (Q : P
 abbrev pub Redue : List ℕ → ℕ → List ℕ → List ℕ → Type 0
 Redue id n old due = (x : ℕ) → x < n → at due x ≡ at id (at old x / 2) * 2 + at old x % 2
 
-pub record Refilled (id : List ℕ) (old new : ℕ) : Type 0 where
-  pub free : old ≡ 0 → new ≡ 0
-  pub read : 0 < old → new ≡ at id (old - 1) + 1
+abbrev pub refilled : List ℕ → Option ℕ → Option ℕ
+refilled id (Some i) = Some (at id i)
+refilled id None = None
 
-abbrev pub Refill : List ℕ → ℕ → List ℕ → List ℕ → Type 0
-Refill id n old fill = (x : ℕ) → x < n → Refilled id (at old x) (at fill x)
+abbrev pub Refill : List ℕ → List (Option ℕ) → List (Option ℕ) → Type 0
+Refill id old fill = (x : ℕ) → asked fill x ≡ refilled id (asked old x)

@@ -10,14 +10,15 @@ use Rattle.graph.specs.Columns.{at}
 unfoldable pub depth : List ℕ → ℕ → ℕ
 depth span x = cond (ltb x 32) (suc x) (at span (x - 32))
 
-pub record Most (operand span : List ℕ) (start end r : ℕ) : Type 0 where
-  pub above : (j : ℕ) → start ≤ j → j < end → depth span (at operand j) ≤ r
-  pub least : (b : ℕ) → ((j : ℕ) → start ≤ j → j < end → depth span (at operand j) ≤ b) → r ≤ b
+pub record Most (operands span : List ℕ) (r : ℕ) : Type 0 where
+  pub above : (j : ℕ) → j < length operands → depth span (at operands j) ≤ r
+  pub least : (b : ℕ) → ((j : ℕ) → j < length operands → depth span (at operands j) ≤ b) → r ≤ b
 
 -- An operand is a chosen bit, below 32, or an earlier cell.
 pub record OperandsWired (cells : ℕ) (first operand : List ℕ) : Type 0 where
   pub few_cells : cells ≤ 12288
   pub first_rows : suc cells ≤ length first
+  pub rising : (i : ℕ) → i < cells → at first i ≤ at first (suc i)
   pub in_rows : (i : ℕ) → i < cells → at first (suc i) ≤ length operand
   pub earlier : (i j : ℕ) → i < cells → at first i ≤ j → j < at first (suc i) → at operand j < 32 + i
 

@@ -1,6 +1,5 @@
 -- 32 clocks of a gate in a row.
 --   turned j c          slot c, j rows further
---   Clocked             one clock of a gate: its value is put, its slots are a row further
 --   ahead               the ring after j clocks of a gate
 --   all_ahead           the ring after 32 clocks of each of the first n gates of a list, each from those before it
 --   Places              the last place of each node in a list, from 1 on, and 0 where it stands nowhere
@@ -11,32 +10,25 @@
 use Rattle.std.specs.Prelude.{◌≡◌, ◌⊎◌, List, map, ℕ, zero, suc, ◌+◌, ◌*◌, ◌%◌, ◌<◌, ◌≤◌, set}
 use Rattle.theory.specs.Gate.{gate}
 use Rattle.graph.specs.Columns.{at}
-use Rattle.gates.specs.inner.Gates.{part, Reckons, evaluated}
+use Rattle.gates.specs.inner.Gates.{part, evaluated}
 use Rattle.starts.specs.inner.Ring.{further}
 
 unfoldable pub turned : ℕ → ℕ → ℕ
 turned zero c = c
 turned (suc j) c = further (turned j c)
 
-pub record Clocked (truth inputs place : ℕ) (own ring own' ring' : List ℕ) : Type 0 where
-  pub further_all : (k : ℕ) → k < inputs → at own' k ≡ further (at own k)
-  pub found : ℕ
-  pub bit_found : found ≤ 1
-  pub puts : ring' ≡ set ring place found
-  pub right : (kind : ℕ) → Reckons kind inputs truth → found ≡ gate kind (map (at ring) (part own 0 inputs))
-
--- A gate of this kind that sees the slots from place lo up to place hi in the first clock; its values go to `place`, a row further each.
-unfoldable pub ahead : ℕ → List ℕ → ℕ → ℕ → ℕ → ℕ → List ℕ → List ℕ
-ahead kind slots lo hi place zero ring = ring
-ahead kind slots lo hi place (suc j) ring =
-    let before = ahead kind slots lo hi place j ring in
-    set before (place + j * 512) (gate kind (map (at before) (part (map (turned j) slots) lo hi)))
+-- A gate of this kind that sees these slots in the first clock; its values go to `place`, a row further each.
+unfoldable pub ahead : ℕ → List ℕ → ℕ → ℕ → List ℕ → List ℕ
+ahead kind sees place zero ring = ring
+ahead kind sees place (suc j) ring =
+    let before = ahead kind sees place j ring in
+    set before (place + j * 512) (gate kind (map (at before) (map (turned j) sees)))
 
 unfoldable pub all_ahead : List ℕ → List ℕ → List ℕ → List ℕ → ℕ → ℕ → List ℕ → List ℕ
 all_ahead kind node first slots base zero ring = ring
 all_ahead kind node first slots base (suc n) ring =
     let v = at node n in
-    ahead (at kind v) slots (at first v) (at first (suc v)) (base + v) 32 (all_ahead kind node first slots base n ring)
+    ahead (at kind v) (part slots (at first v) (at first (suc v))) (base + v) 32 (all_ahead kind node first slots base n ring)
 
 pub record Places (list : List ℕ) (n : ℕ) (place : List ℕ) : Type 0 where
   pub past : (i : ℕ) → i < n → i < at place (at list i)

@@ -75,4 +75,4 @@ pub record Slotable (ins from count start : List ℕ) (size lo hi : ℕ) : Type 
 
 abbrev pub SlotableOf : List ℕ → ℕ → List ℕ → List ℕ → List ℕ → List ℕ → List ℕ → ℕ → Type 0
 SlotableOf list n first ins from count start size =
-    (i : ℕ) → i < n → (suc (at list i) < length first) × Slotable ins from count start size (at first (at list i)) (at first (suc (at list i)))
+    (i : ℕ) → i < n → (at list i < 512) × Slotable ins from count start size (at first (at list i)) (at first (suc (at list i)))

@@ -6,8 +6,5 @@ use Rattle.choose.proofs.dues.append_dues.Given as goal
 
 abbrev pub invariant-loop-s : goal.invariant-loop-s
 invariant-loop-s l =
-    (l.initial.s ≤ l.s) × (l.s ≤ l.initial.s + (l.end - l.initial.s)) × (l.n + l.initial.s ≡ l.start + l.s)
-    × Appended (due_at l.id l.v l.lag l.count l.values) l.initial.due l.due l.initial.s l.s l.start
-
-abbrev pub decreases-loop-s : goal.decreases-loop-s
-decreases-loop-s l = l.end - l.s
+    (l.s ≤ l.initial.s + (l.end - l.initial.s)) × (l.n + l.initial.s ≡ l.start + l.s)
+    × Appended (due_at l.id l.e.node l.e.lag l.e.count l.e.values) l.initial.due l.due l.initial.s l.s l.start

@@ -7,8 +7,8 @@ use Rattle.choose.proofs.dues.dues_of.Given as goal
 
 abbrev pub invariant-loop-low : goal.invariant-loop-low
 invariant-loop-low l =
-    (l.low ≤ 24) × (length l.due ≡ 24576) × (length l.begin ≡ 5121) × FewRows l.low l.rows
-    × DuesTo l.net (lag_at l.lab) l.id l.along l.low l.low 0 l.rows l.due l.begin (at l.begin l.rows)
+    (l.low ≤ 24) × (length l.due ≡ 24576) × FewRows l.low l.rows.count
+    × DuesTo l.task.net.now (lag_at l.task.lab.now) l.id l.along l.low l.low 0 l.rows.count l.due l.rows.begin (at l.rows.begin l.rows.count)
 
 abbrev pub decreases-loop-low : goal.decreases-loop-low
 decreases-loop-low l = 24 - l.low

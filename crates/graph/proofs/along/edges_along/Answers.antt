@@ -1,10 +1,12 @@
 -- `graph::along::edges_along` meets its contract: sorted by any low key, the edges are all there.
-use Rattle.std.proofs.Common.{arith}
+use Rattle.std.proofs.Common.{length}
 use Rattle.graph.specs.Columns.{at}
 use Rattle.graph.proofs.ByNode.{sorts_each}
 use Rattle.graph.proofs.along.edges_along.Goals as goal
 
 pub returns : goal.returns
 returns c =
-    sorts_each c.place_keys-key.result c.args.nodes c.args.edges
-    (λ e h. rw (c.place_keys-key.ensures e h) (c.places_of-place.ensures (at c.args.from.now e) (c.requires.edges_bound.2 e h))) (omega arith) c.sort_by.ensures
+    let a = c.args in
+    let r = c.requires in
+    sorts_each c.place_keys-key.result (length a.order.now) (length a.from.now)
+    (λ e h. rw (c.place_keys-key.ensures e h) (c.places_of-place.ensures (at a.from.now e) (r.edges_bound.1 e h))) r.edges_bound.0 c.edges_by_node.ensures

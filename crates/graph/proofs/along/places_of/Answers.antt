@@ -4,4 +4,4 @@ use Rattle.graph.proofs.Answers.{same_at}
 use Rattle.graph.proofs.along.places_of.Goals as goal
 
 pub loop-p-init : goal.loop-p-init
-loop-p-init c = (omega arith, λ v h. omega (arith, same_at 512 0 c.requires.0 v h))
+loop-p-init c = λ v h. omega (arith, same_at 512 0 c.requires.0 v h)

@@ -5,7 +5,7 @@ use Rattle.graph.specs.inner.Layers.{AfterPasses}
 use Rattle.graph.proofs.layers.walk.Given as goal
 
 abbrev pub invariant-loop-layer : goal.invariant-loop-layer
-invariant-loop-layer l = AfterPasses l.nodes l.edges l.kind l.pin l.from l.to l.layer × (l.layer.passes ≤ l.most)
+invariant-loop-layer l = AfterPasses l.wires l.kind l.pin l.layer × (l.layer.passes ≤ l.most)
 
 abbrev pub decreases-loop-layer : goal.decreases-loop-layer
-decreases-loop-layer l = l.nodes - l.layer.lo
+decreases-loop-layer l = l.wires.nodes - l.layer.lo

@@ -7,4 +7,8 @@ use Rattle.lags.proofs.times.working.Goals as goal
 
 pub returns : goal.returns
 unfolding working
-returns c = (sym (rounded_sum (c.args.delay * c.args.derate)), omega (arith, product_small c.args.delay c.args.derate c.ranges.delay.fits c.ranges.derate.fits))
+returns c =
+    rw (c.from.ensures, c.from-2.ensures) (
+      sym (rounded_sum (c.args.delay * c.args.derate)),
+      omega (arith, product_small c.args.delay c.args.derate c.ranges.delay.fits c.ranges.derate.fits),
+    )

@@ -23,13 +23,7 @@ few net lab s e h count lag x p q =
 pub loop-e-init : goal.loop-e-init
 loop-e-init c =
     let f : ℕ → ℕ = chosen_at c.args.net c.args.lab.now in
-    (omega arith, refl, omega arith, sum_none f, base_none f (replicate 1025 0) refl)
-
-pub bounds-net-e : goal.bounds-net-e
-bounds-net-e c = low_edge c.args.net c.args.lab.now c.requires.0 c.loop-e.e c.loop-e-test.true
-
-pub bounds-lab-v : goal.bounds-lab-v
-bounds-lab-v c = omega (arith, to_node c.args.net c.args.lab.now c.requires.0 c.loop-e.e c.loop-e-test.true, c.requires.0.rows)
+    (refl, omega arith, sum_none f, base_none f (replicate 1025 0) refl)
 
 pub overflow_add-total : goal.overflow_add-total
 overflow_add-total c =
@@ -37,9 +31,6 @@ overflow_add-total c =
     let e = c.loop-e.e in
     let h = c.loop-e-test.true in
     omega (arith, few a.net a.lab.now c.requires.0 e h (at a.counts.now e) c.up_of.result c.chosen_on-total.result c.up_of.ensures c.chosen_on-total.ensures, low_edge a.net a.lab.now c.requires.0 e h)
-
-pub bounds-base-e : goal.bounds-base-e
-bounds-base-e c = omega (arith, low_edge c.args.net c.args.lab.now c.requires.0 c.loop-e.e c.loop-e-test.true)
 
 pub loop-e-preserved : goal.loop-e-preserved
 loop-e-preserved c =
@@ -49,10 +40,9 @@ loop-e-preserved c =
     let x = c.chosen_on-total.result in
     let f : ℕ → ℕ = chosen_at a.net a.lab.now in
     let q : l.total + x ≡ sum f (l.e + 1) =
-    ap₂ ◌+◌ l.invariant.3 (chosen_is a.net a.lab.now a.counts.now c.requires.1 l.e h x c.up_of.result c.up_of.ensures c.chosen_on-total.ensures) ∙ sym (sum_more f l.e) in (
-      omega arith,
-      length-set l.base (l.e + 1) (l.total + x) ∙ l.invariant.1,
+    ap₂ ◌+◌ l.invariant.2 (chosen_is a.net a.lab.now a.counts.now c.requires.1 l.e h x c.up_of.result c.up_of.ensures c.chosen_on-total.ensures) ∙ sym (sum_more f l.e) in (
+      length-set l.base (l.e + 1) (l.total + x) ∙ l.invariant.0,
       omega (arith, few a.net a.lab.now c.requires.0 l.e h (at a.counts.now l.e) c.up_of.result x c.up_of.ensures c.chosen_on-total.ensures),
       q,
-      fill_more (λ k. sum f k) l.base (l.e + 1) (l.total + x) (omega (arith, low_edge a.net a.lab.now c.requires.0 l.e h, l.invariant.1)) q l.invariant.4,
+      fill_more (λ k. sum f k) l.base (l.e + 1) (l.total + x) (omega (arith, low_edge a.net a.lab.now c.requires.0 l.e h, l.invariant.0)) q l.invariant.3,
     )

@@ -1,8 +1,8 @@
 -- `netlist::writing::edge_bytes` meets its contract: each byte is the definition's, and one of a byte is itself.
-use Rattle.std.proofs.Common.{◌≡◌, ◌%◌, arith}
-use Rattle.frame.specs.Frame.{bytes_of}
+use Rattle.std.proofs.Common.{arith}
+use Rattle.frame.proofs.Numbers.{code_one, code_two, code_four}
 use Rattle.netlist.proofs.writing.edge_bytes.Goals as goal
 
 pub returns : goal.returns
-unfolding bytes_of
-returns c = let e : c.args.count % 256 ≡ c.args.count = omega arith in rw e
+returns c =
+    rw (c.to_be_bytes-u.ensures, c.to_be_bytes-v.ensures, c.to_be_bytes-s.ensures, ← code_two c.args.from, ← code_two c.args.to, code_one c.args.count (omega arith), ← code_four c.args.start)

@@ -20,11 +20,10 @@ pub loop-e-preserved : goal.loop-e-preserved
 loop-e-preserved c =
     let here = c.loop-e in
     let a = c.args in (
-      omega arith,
       omega (arith, joined_more (edge_line a.net) here.e, edge_length a.net here.e),
       c.put_line.ensures
           ∙ ap (placed _ _) (ap line_of c.edge_bytes-b.ensures)
-          ∙ ap₂ (λ l at. placed l at (edge_line a.net here.e)) here.invariant.2 here.invariant.1
+          ∙ ap₂ (λ l at. placed l at (edge_line a.net here.e)) here.invariant.1 here.invariant.0
           ∙ put_more (edge_line a.net) a.out.now a.at0 here.e (omega (arith, joined_part (edge_line a.net) a.net.edges here.e (omega arith))),
     )
 
@@ -33,6 +32,6 @@ returns c =
     let here = c.loop-e in
     let net = c.args.net in
     let e : here.e ≡ net.edges = omega arith in (
-      here.invariant.2 ∙ ap (λ n. sets c.args.out.now c.args.at0 (joined (edge_line net) n)) e,
-      here.invariant.1 ∙ ap (λ n. c.args.at0 + length (joined (edge_line net) n)) e,
+      here.invariant.1 ∙ ap (λ n. sets c.args.out.now c.args.at0 (joined (edge_line net) n)) e,
+      here.invariant.0 ∙ ap (λ n. c.args.at0 + length (joined (edge_line net) n)) e,
     )

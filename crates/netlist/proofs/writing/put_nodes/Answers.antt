@@ -1,6 +1,6 @@
 use Rattle.std.proofs.Common.{◌≡◌, ◌+◌, arith, rules, ap, ap₂, ◌∙◌, length}
 use Rattle.std.proofs.lemmas.List.Edits.{sets}
-use Rattle.frame.specs.Frame.{line_of, placed}
+use Rattle.frame.specs.Frame.{placed}
 use Rattle.netlist.specs.Write.{node_line, joined}
 use Rattle.netlist.proofs.Written.{joined_more, joined_part, node_length, put_more}
 use Rattle.netlist.proofs.writing.put_nodes.Goals as goal
@@ -20,11 +20,9 @@ pub loop-i-preserved : goal.loop-i-preserved
 loop-i-preserved c =
     let here = c.loop-i in
     let a = c.args in (
-      omega arith,
       omega (arith, joined_more (node_line a.net) here.i, node_length a.net here.i),
       c.put_line.ensures
-          ∙ ap (placed _ _) (ap line_of c.node_bytes.ensures)
-          ∙ ap₂ (λ l at. placed l at (node_line a.net here.i)) here.invariant.2 here.invariant.1
+          ∙ ap₂ (λ l at. placed l at (node_line a.net here.i)) here.invariant.1 here.invariant.0
           ∙ put_more (node_line a.net) a.out.now a.at0 here.i (omega (arith, joined_part (node_line a.net) a.net.nodes here.i (omega arith))),
     )
 
@@ -33,6 +31,6 @@ returns c =
     let here = c.loop-i in
     let net = c.args.net in
     let e : here.i ≡ net.nodes = omega arith in (
-      here.invariant.2 ∙ ap (λ n. sets c.args.out.now c.args.at0 (joined (node_line net) n)) e,
-      here.invariant.1 ∙ ap (λ n. c.args.at0 + length (joined (node_line net) n)) e,
+      here.invariant.1 ∙ ap (λ n. sets c.args.out.now c.args.at0 (joined (node_line net) n)) e,
+      here.invariant.0 ∙ ap (λ n. c.args.at0 + length (joined (node_line net) n)) e,
     )

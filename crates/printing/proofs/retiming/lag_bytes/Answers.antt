@@ -1,8 +1,10 @@
 -- `printing::retiming::lag_bytes` meets its contract: each byte is the definition's.
-use Rattle.std.proofs.Common.{rules}
+use Rattle.std.proofs.Common.{◌∙◌}
 use Rattle.frame.specs.Frame.{bytes_of}
+use Rattle.frame.proofs.Numbers.{code_two}
+use Rattle.printing.proofs.Bytes.{lag_word}
 use Rattle.printing.proofs.retiming.lag_bytes.Goals as goal
 
 pub returns : goal.returns
 unfolding bytes_of
-returns c = search rules
+returns c = rw (c.copy_from_slice.ensures.after ∙ c.to_be_bytes.ensures ∙ code_two _, c.copy_from_slice-2.ensures.after ∙ c.to_be_bytes-2.ensures ∙ lag_word c.args.lag c.ranges.lag)

@@ -1,25 +1,31 @@
--- `printing::running::put_bits` meets its contract: the digits of the smaller of both numbers, where there is room.
-use Rattle.std.proofs.Common.{◌≡◌, length, min, arith}
-use Rattle.printing.proofs.Digits.{bits_none, bits_put}
+-- `printing::running::put_bits` meets its contract: the digits, where there is room.
+use Rattle.std.proofs.Common.{length, sym, ◌∙◌, arith}
+use borrow.Author.Tests.{le-leb, lt-leb}
+use Rattle.frame.proofs.Buffers.{placed_room, placed_full}
+use Rattle.printing.specs.Printed.{digit_line}
+use Rattle.printing.proofs.Digits.{length_digits}
 use Rattle.printing.proofs.running.put_bits.Goals as goal
-use Rattle.printing.proofs.running.put_bits.Goals.{then-n-bits, else-n-bits}
 
-pub returns-then-out-some-clause-out_after : goal.returns-then-out-some-clause-out_after
-returns-then-out-some-clause-out_after c =
-    let e : c.if-n-bits.some ≡ min c.args.n (length c.args.bits.now) = elim c.if-n-bits.branch [ then-n-bits w ↦ omega arith | else-n-bits w ↦ omega arith ] in
-    (bits_none c.args.bits.now c.args.out.now c.args.n _ e c.if-out-some.true).0
+pub returns-then-out-bits-clause-out_after : goal.returns-then-out-bits-clause-out_after
+returns-then-out-bits-clause-out_after c =
+    let a = c.args in
+    let long = length_digits a.bits.now in
+    sym (placed_full a.out.now 0 (digit_line a.bits.now) (omega arith))
 
-pub returns-then-out-some-clause-value : goal.returns-then-out-some-clause-value
-returns-then-out-some-clause-value c =
-    let e : c.if-n-bits.some ≡ min c.args.n (length c.args.bits.now) = elim c.if-n-bits.branch [ then-n-bits w ↦ omega arith | else-n-bits w ↦ omega arith ] in
-    (bits_none c.args.bits.now c.args.out.now c.args.n _ e c.if-out-some.true).1
+pub returns-then-out-bits-clause-value : goal.returns-then-out-bits-clause-value
+returns-then-out-bits-clause-value c =
+    let a = c.args in
+    let long = length_digits a.bits.now in
+    rw (lt-leb (length (digit_line a.bits.now)) (length a.out.now) (omega arith))
 
 pub returns-clause-out_after : goal.returns-clause-out_after
 returns-clause-out_after c =
-    let e : c.if-n-bits.some ≡ min c.args.n (length c.args.bits.now) = elim c.if-n-bits.branch [ then-n-bits w ↦ omega arith | else-n-bits w ↦ omega arith ] in
-    (bits_put c.args.bits.now c.args.out.now c.args.n _ e c.if-out-some.false _ c.put_digits.ensures).0
+    let a = c.args in
+    let long = length_digits a.bits.now in
+    c.put_digits.ensures ∙ sym (placed_room a.out.now 0 (digit_line a.bits.now) (omega arith))
 
 pub returns-clause-value : goal.returns-clause-value
 returns-clause-value c =
-    let e : c.if-n-bits.some ≡ min c.args.n (length c.args.bits.now) = elim c.if-n-bits.branch [ then-n-bits w ↦ omega arith | else-n-bits w ↦ omega arith ] in
-    (bits_put c.args.bits.now c.args.out.now c.args.n _ e c.if-out-some.false _ c.put_digits.ensures).1
+    let a = c.args in
+    let long = length_digits a.bits.now in
+    rw (le-leb (length (digit_line a.bits.now)) (length a.out.now) (omega arith)) (sym long)

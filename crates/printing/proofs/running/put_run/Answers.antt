@@ -1,25 +1,14 @@
 -- `printing::running::put_run` meets its contract: a run that is not refused has room for its outputs.
-use Rattle.std.proofs.Common.{arith}
-use Rattle.printing.proofs.Runs.{run_room, prints_none, prints_digits, prints_refusal}
+use Rattle.netlist.specs.Answer.{value, refusal}
+use Rattle.printing.proofs.Runs.{prints_run}
 use Rattle.printing.proofs.running.put_run.Goals as goal
 
-pub returns-then-out-n-clause-prints_run : goal.returns-then-out-n-clause-prints_run
-returns-then-out-n-clause-prints_run c =
+pub returns-in-Ok-clause-prints_run : goal.returns-in-Ok-clause-prints_run
+returns-in-Ok-clause-prints_run c =
     let a = c.args in
-    (prints_none a.text.now a.vectors.now a.ran.now _ a.out.now _ c.run-a.ensures _ c.in-Done.is c.run-a.auto.out c.if-out-n.true).0
+    prints_run a.text.now a.vectors.now a.ran.now _ a.out.now (value c.in-Ok.len) c.in-Ok.ensures _ _ c.put_bits.ensures.out_after c.put_bits.ensures.value
 
-pub put_digits-requires : goal.put_digits-requires
-put_digits-requires c =
+pub returns-in-Err-clause-prints_run : goal.returns-in-Err-clause-prints_run
+returns-in-Err-clause-prints_run c =
     let a = c.args in
-    let room = run_room a.text.now a.vectors.now a.ran.now _ a.out.now _ c.run-a.ensures _ c.in-Done.is in
-    (omega (arith, c.run-a.auto), c.if-out-n.false)
-
-pub returns-else-out-n-clause-prints_run : goal.returns-else-out-n-clause-prints_run
-returns-else-out-n-clause-prints_run c =
-    let a = c.args in
-    (prints_digits a.text.now a.vectors.now a.ran.now _ a.out.now _ c.run-a.ensures _ c.in-Done.is c.run-a.auto.out c.if-out-n.false _ c.put_digits.ensures).0
-
-pub returns-in-Refused-clause-prints_run : goal.returns-in-Refused-clause-prints_run
-returns-in-Refused-clause-prints_run c =
-    let a = c.args in
-    (prints_refusal a.text.now a.vectors.now a.ran.now _ a.out.now _ c.run-a.ensures _ _ c.in-Refused.is _ _ c.put_refusal.ensures.out_after c.put_refusal.ensures.value).0
+    prints_run a.text.now a.vectors.now a.ran.now _ a.out.now (refusal c.in-Err.reason) c.in-Err.ensures _ _ c.put_refusal.ensures.out_after c.put_refusal.ensures.value

@@ -1,5 +1,5 @@
 -- `printing::sharing::put_nodes` meets its contract.
-use Rattle.std.proofs.Common.{rules, ap, ap₂, sym, ◌∙◌, arith, ◌≡◌, ◌+◌, ◌*◌}
+use Rattle.std.proofs.Common.{rules, ap, ap₂, sym, ◌∙◌, arith, ◌≡◌, ◌+◌, ◌*◌, length}
 use Rattle.std.proofs.lemmas.List.Edits.{sets}
 use Rattle.frame.specs.Frame.{line_of, placed}
 use Rattle.netlist.specs.Write.{joined}
@@ -17,15 +17,13 @@ loop-v-preserved c =
     let here = c.loop-v in
     let a = c.args in
     let f = rail_line a.table.now in
-    let long = length_joined f 15 (rail_length a.table.now) in (
-      omega arith,
-      c.put_line.ensures
-          ∙ ap₂ (λ l bytes. placed l (11 + 15 * here.v) (line_of bytes)) here.invariant.1 c.rail_bytes-b.ensures
-          ∙ ap (λ k. placed (sets a.out.now 11 (joined f here.v)) (11 + k) (f here.v)) (sym (long here.v))
-          ∙ put_more f a.out.now 11 here.v (omega (arith, long (here.v + 1))),
-    )
+    let long = length_joined f 15 (rail_length a.table.now) in
+    c.put_line.ensures
+    ∙ ap₂ (λ l bytes. placed l (11 + 15 * here.v) (line_of bytes)) here.invariant c.rail_bytes.ensures
+    ∙ ap (λ k. placed (sets a.out.now 11 (joined f here.v)) (11 + k) (f here.v)) (sym (long here.v))
+    ∙ put_more f a.out.now 11 here.v (omega (arith, long (here.v + 1)))
 
 pub returns : goal.returns
 returns c =
-    let e : c.loop-v.v ≡ c.args.nodes = omega arith in
-    c.loop-v.invariant.1 ∙ ap (λ n. sets c.args.out.now 11 (joined (rail_line c.args.table.now) n)) e
+    let e : c.loop-v.v ≡ length c.args.table.now = omega arith in
+    c.loop-v.invariant ∙ ap (λ n. sets c.args.out.now 11 (joined (rail_line c.args.table.now) n)) e

@@ -5,20 +5,20 @@ use Rattle.search.specs.inner.Program.{program_of}
 use Rattle.search.proofs.States.{Searching}
 use Rattle.search.proofs.choices.best_list.Given as goal
 
-abbrev pub invariant-loop-d-2 : goal.invariant-loop-d-2
-invariant-loop-d-2 l = (l.choice ≡ l.initial.choice) × Searching l.e (program_of l.kind l.first l.operand) l.row l.fill l.best l.choice l.p l.sig l.d
+abbrev pub invariant-loop-turn-2 : goal.invariant-loop-turn-2
+invariant-loop-turn-2 l = (l.turn.choice ≡ l.initial.turn.choice) × Searching l.e (program_of l.cells.program.kind.now l.cells.program.first.now l.cells.program.operand.now) l.rows.row.now l.fill l.best l.turn.choice l.turn.cell l.sig l.turn.due
 
-abbrev pub decreases-loop-d-2 : goal.decreases-loop-d-2
-decreases-loop-d-2 l = l.end - l.d
+abbrev pub decreases-loop-turn-2 : goal.decreases-loop-turn-2
+decreases-loop-turn-2 l = l.end - l.turn.due
 
-abbrev pub invariant-loop-d : goal.invariant-loop-d
-invariant-loop-d l = (l.choice ≡ l.initial.choice) × Searching l.e (program_of l.kind l.first l.operand) l.row l.fill l.best l.choice l.p l.sig l.d
+abbrev pub invariant-loop-turn : goal.invariant-loop-turn
+invariant-loop-turn l = (l.turn.choice ≡ l.initial.turn.choice) × Searching l.e (program_of l.cells.program.kind.now l.cells.program.first.now l.cells.program.operand.now) l.rows.row.now l.fill l.best l.turn.choice l.turn.cell l.sig l.turn.due
 
-abbrev pub decreases-loop-d : goal.decreases-loop-d
-decreases-loop-d l = l.e.dues - l.d
+abbrev pub decreases-loop-turn : goal.decreases-loop-turn
+decreases-loop-turn l = l.e.dues - l.turn.due
 
 abbrev pub invariant-search : goal.invariant-search
-invariant-search l = Searching l.e (program_of l.kind l.first l.operand) l.row l.fill l.best l.choice l.p l.sig l.d
+invariant-search l = Searching l.e (program_of l.cells.program.kind.now l.cells.program.first.now l.cells.program.operand.now) l.rows.row.now l.fill l.best l.turn.choice l.turn.cell l.sig l.turn.due
 
 abbrev pub decreases-search : goal.decreases-search
-decreases-search l = l.e.limit - l.choice
+decreases-search l = l.e.limit - l.turn.choice

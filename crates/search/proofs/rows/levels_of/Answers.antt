@@ -1,18 +1,23 @@
--- `search::rows::levels_of` meets its contract: the cells below i have their levels.
-use Rattle.std.proofs.Common.{◌+◌, arith, length-set, ◌∙◌}
-use Rattle.search.specs.inner.Rows.{Level}
-use Rattle.search.proofs.Putting.{climb}
-use Rattle.graph.proofs.Fills.{fill_with}
+-- `search::rows::levels_of` meets its contract: the cells of the levels below m have their levels.
+use Rattle.std.proofs.Common.{◌≡◌, ◌≤◌, ◌<◌, ◌+◌, ◌-◌, ℕ, suc, List, length, take, drop, add-one, arith, ap, ◌∙◌}
+use lib.ListN.{replicate, length-take, length-drop}
+use Rattle.graph.specs.Columns.{at}
+use Rattle.search.proofs.Putting.{climb, level_put}
 use Rattle.search.proofs.rows.levels_of.Goals as goal
 
--- A cell of level m has a place.
-pub bounds-level-i : goal.bounds-level-i
-bounds-level-i c = omega (arith, climb c.args.levels.now c.args.many c.requires.by_index (c.loop-m.m + 1) c.args.many (omega arith) (omega arith), c.requires.many_in_bounds)
+-- The cells of level m have places.
+room : (levels : List ℕ) (many m n : ℕ) → ((m : ℕ) → m < many → at levels m ≤ at levels (suc m)) → m < many → at levels many ≤ n → at levels (m + 1) ≤ n
+room levels many m n up h l = omega (arith, climb levels many up (m + 1) many (omega arith) (omega arith))
 
-pub loop-i-preserved : goal.loop-i-preserved
-loop-i-preserved c =
+pub slice_bounds-fill-end : goal.slice_bounds-fill-end
+slice_bounds-fill-end c = room c.args.levels.now c.args.many c.loop-m.m (length c.loop-m.level) c.requires.by_index (omega arith) (omega (arith, c.requires.many_in_bounds))
+
+pub loop-m-preserved : goal.loop-m-preserved
+loop-m-preserved c =
+    let a = c.args in
     let m = c.loop-m.m in
-    let l = c.loop-i in
-    let levels = c.args.levels.now in
-    let q : Level levels c.args.many l.i m = record { from = l.invariant.0; below = grind arith; few = c.loop-m-test.true } in
-    (omega arith, omega arith, length-set l.level l.i m ∙ l.invariant.2, fill_with (Level levels c.args.many) l.level l.i m (bounds-level-i c) q l.invariant.3)
+    let up : at a.levels.now m ≤ at a.levels.now (m + 1) = rw (add-one m) (c.requires.by_index m (omega arith)) in
+    let fits = room a.levels.now a.many m (length c.loop-m.level) c.requires.by_index (omega arith) (omega (arith, c.requires.many_in_bounds)) in
+    let n = at a.levels.now (m + 1) - at a.levels.now m in
+    let size : length (take n (drop (at a.levels.now m) c.loop-m.level)) ≡ n = simp (length-take, length-drop) (omega arith) in
+    level_put a.levels.now a.many m c.loop-m.level up fits (omega arith) c.loop-m.invariant (c.fill.ensures.after (λ y e. e) ∙ ap (λ k. replicate k m) size)

@@ -22,15 +22,15 @@ overflow_cast-rows c =
     let r = c.requires in
     omega (arith, ranking_small c.loop-m.invariant r.owes.due_rows r.edges_in_bounds.0 r.edges_in_bounds.2, r.owes.few)
 
-pub put_level-n-requires-clause-due_in_bounds : goal.put_level-n-requires-clause-due_in_bounds
-put_level-n-requires-clause-due_in_bounds c =
+pub put_level-n-requires-clause-row_room : goal.put_level-n-requires-clause-row_room
+put_level-n-requires-clause-row_room c =
     let i = c.loop-m.invariant in
     let o = c.requires.owes.due_rows in
     let b = c.requires.edges_in_bounds in
     omega (arith, ranking_room i o b.0 b.2, ranking_size i o b.0 b.2, b.0)
 
-pub put_level-n-requires-clause-due_in_bounds_2 : goal.put_level-n-requires-clause-due_in_bounds_2
-put_level-n-requires-clause-due_in_bounds_2 c =
+pub put_level-n-requires-clause-left_room : goal.put_level-n-requires-clause-left_room
+put_level-n-requires-clause-left_room c =
     let i = c.loop-m.invariant in
     let b = c.requires.edges_in_bounds in
     omega (arith, ranking_room i c.requires.owes.due_rows b.0 b.2, i.left_size, b.1)

@@ -1,21 +1,17 @@
--- One node more is counted, or not.
-use Rattle.std.proofs.Common.{◌≡◌, suc, ◌+◌, arith, add-one, refl, ap}
-use Rattle.theory.specs.Clock.{gather}
+-- `simulate::checks::count_kind` meets its contract: the nodes that are kept are counted.
+use Rattle.std.proofs.Common.{◌≡◌, length, arith, rules, tests, ap, ◌∙◌}
+use lib.Dec.{eqb}
+use Rattle.std.proofs.lemmas.Iterator.{YieldsList-from_slice, YieldsList-from_take}
+use Rattle.std.proofs.lemmas.Iterator.Consumers.{YieldsList-from_filter, YieldsList-at, count_from_yields_List}
 use Rattle.simulate.specs.Clock.{earlier}
-use Rattle.simulate.proofs.Lists.{before_hit, before_miss}
-use Rattle.simulate.proofs.checks.count_kind.Goals.{then-net-v, else-net-v}
+use Rattle.simulate.proofs.Asked.{counted}
 use Rattle.simulate.proofs.checks.count_kind.Goals as goal
 
-pub loop-v-init : goal.loop-v-init
-unfolding earlier gather
-loop-v-init c = (omega arith, refl, omega arith)
-
-pub loop-v-preserved : goal.loop-v-preserved
-loop-v-preserved c =
-    let a = c.args in
-    let l = c.loop-v in
-    let s : earlier a.net a.k (l.v + 1) ≡ earlier a.net a.k (suc l.v) = ap (earlier a.net a.k) (add-one l.v) in
-    elim c.if-net-v.branch [
-      | then-net-v w ↦ (omega arith, omega (arith, before_hit a.net a.k l.v w.if-net-v.true), omega arith)
-      | else-net-v w ↦ (omega arith, omega (arith, before_miss a.net a.k l.v w.if-net-v.false), omega arith)
-    ]
+pub returns : goal.returns
+returns c =
+    let net = c.args.circuit.net.now in
+    let rows : length net.kind ≡ 512 = search rules in
+    let k = c.from-number.result in
+    count_from_yields_List c.filter.result _ c.count.ensures.ran
+    (YieldsList-from_filter _ (λ x. eqb x k) (YieldsList-at c.filter.ensures.source (YieldsList-from_take net.nodes (YieldsList-at c.take-kinds.ensures.source (YieldsList-from_slice net.kind (cc))) (c.take-kinds.ensures.count ∙ c.from.ensures))) c.filter.ensures.closure (λ x r q k. search (rules, tests)))
+    ∙ counted net k net.nodes (omega arith) ∙ ap (λ k. earlier net k net.nodes) c.from-number.ensures

@@ -1,24 +1,15 @@
--- One word more fits, or none of the rest matters.
-use Rattle.std.proofs.Common.{arith, refl, sym, ◌∙◌}
-use Rattle.netlist.proofs.Fits.{head_fits_means}
-use Rattle.simulate.specs.Step.{words_fit}
-use Rattle.simulate.proofs.Asked.{fits_more, fits_stop}
+-- `simulate::checks::words_fit` meets its contract: every word fits, or some word does not.
+use Rattle.std.proofs.Common.{◌≡◌, length, ◌^◌, true, false, arith, rules, tests, take}
+use lib.Dec.{ltb}
+use Rattle.std.proofs.lemmas.Iterator.{YieldsList-from_slice, YieldsList-from_zip, cases_from_all}
+use Rattle.std.proofs.lemmas.Iterator.Consumers.{YieldsList-at}
+use Rattle.std.proofs.lemmas.Grind.{common_steps}
+use Rattle.simulate.proofs.Asked.{fits_told}
 use Rattle.simulate.proofs.checks.words_fit.Goals as goal
 
-pub loop-e-init : goal.loop-e-init
-unfolding words_fit
-loop-e-init c = (omega arith, refl)
-
-pub bounds-net-e : goal.bounds-net-e
-bounds-net-e c = omega (arith, (head_fits_means _ _ _ _ c.requires.0.head).3)
-
-pub returns-then-not-bits_fit : goal.returns-then-not-bits_fit
-returns-then-not-bits_fit c =
-    let a = c.args in
-    sym (fits_stop a.net a.words.now c.loop-e.e (sym c.bits_fit.ensures ∙ c.if-not-bits_fit.true) a.net.edges (omega arith))
-
-pub loop-e-preserved : goal.loop-e-preserved
-loop-e-preserved c =
-    let a = c.args in
-    let l = c.loop-e in
-    (omega arith, fits_more a.net a.words.now l.e l.invariant.1 (sym c.bits_fit.ensures ∙ c.if-not-bits_fit.false))
+pub returns : goal.returns
+returns c =
+    let net = c.args.circuit.net.now in
+    let rows : length net.count ≡ 1024 = search rules in
+    fits_told net c.args.words.now net.edges c.requires (omega arith) _ (cases_from_all c.all.new.self _ _ (λ p. ltb p.0 (2 ^ p.1) ≡ true) (λ p. ltb p.0 (2 ^ p.1) ≡ false) c.all.ensures.ran
+    (YieldsList-from_zip (YieldsList-at c.zip-beside.ensures.first (YieldsList-from_slice (take net.edges c.args.words.now) (grind (arith, common_steps)))) (YieldsList-from_slice net.count (search rules))) (λ x q k. search (rules, tests)) (λ x q k. search (rules, tests)))

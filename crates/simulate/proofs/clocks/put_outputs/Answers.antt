@@ -1,12 +1,12 @@
 -- One signal more is put.
-use Rattle.std.proofs.Common.{arith, refl}
+use Rattle.std.proofs.Common.{refl}
 use Rattle.simulate.specs.inner.Signals.{written}
 use Rattle.simulate.proofs.Written.{written_more}
 use Rattle.simulate.proofs.clocks.put_outputs.Goals as goal
 
 pub loop-i-init : goal.loop-i-init
 unfolding written
-loop-i-init c = (omega arith, refl)
+loop-i-init c = refl
 
 pub loop-i-preserved : goal.loop-i-preserved
-loop-i-preserved c = (omega arith, written_more _ _ c.loop-i.i _ c.loop-i.invariant.1)
+loop-i-preserved c = written_more _ _ c.loop-i.i _ c.loop-i.invariant

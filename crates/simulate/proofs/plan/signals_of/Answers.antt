@@ -9,4 +9,4 @@ pub loop-k-preserved : goal.loop-k-preserved
 loop-k-preserved c =
     let a = c.args in
     let l = c.loop-k in
-    (omega arith, length-set l.sees l.k c.signal_of.result ∙ l.invariant.1, fill_more (λ j. signal a.net (at a.ins.now j)) l.sees l.k c.signal_of.result (omega arith) c.signal_of.ensures l.invariant.2)
+    (length-set l.sees l.k c.signal_of.result ∙ l.invariant.0, fill_more (λ j. signal a.circuit.net.now (at a.ins.now j)) l.sees l.k c.signal_of.result (omega arith) c.signal_of.ensures l.invariant.1)

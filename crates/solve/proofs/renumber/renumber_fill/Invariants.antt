@@ -1,13 +1,9 @@
--- `solve::renumber::renumber_fill` meets its contract: the fillings before x are done, the others as they were.
-use Prim.Native.Nat.{ℕ, ◌-◌, ◌≤◌}
-use mathlib.Core.Path.{◌≡◌}
-use lib.ListN.{length}
-use Rattle.graph.specs.Columns.{at}
-use Rattle.solve.specs.inner.Numbers.{Refill}
+-- `solve::renumber::renumber_fill` meets its contract: the fillings that were passed are done, the others as they were.
+use Rattle.std.proofs.Common.{◌≡◌, ℕ, ◌≤◌, ◌<◌}
+use Rattle.search.specs.inner.Program.{asked}
+use Rattle.solve.specs.inner.Numbers.{refilled}
 use Rattle.solve.proofs.renumber.renumber_fill.Given as goal
 
-abbrev pub invariant-loop-x : goal.invariant-loop-x
-invariant-loop-x l = (length l.fill ≡ length l.initial.fill) × Refill l.id l.x l.initial.fill l.fill × ((y : ℕ) → l.x ≤ y → at l.fill y ≡ at l.initial.fill y)
-
-abbrev pub decreases-loop-x : goal.decreases-loop-x
-decreases-loop-x l = length l.fill - l.x
+abbrev pub invariant-loop-place : goal.invariant-loop-place
+invariant-loop-place l =
+    ((y : ℕ) → y < l.place-index → asked l.fill y ≡ refilled l.id (asked l.initial.fill y)) × ((y : ℕ) → l.place-index ≤ y → asked l.fill y ≡ asked l.initial.fill y)

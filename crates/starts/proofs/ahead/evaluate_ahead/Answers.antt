@@ -1,23 +1,40 @@
 -- `all_next` is a turn.
-use Rattle.std.proofs.Common.{refl, ◌∙◌, arith, add-one}
+use Rattle.std.proofs.Common.{◌≡◌, ◌+◌, suc, refl, length, arith, add-one, rules}
 use Rattle.graph.specs.Columns.{at}
+use Rattle.gates.proofs.Words.{part_length}
+use Rattle.gates.proofs.Row.{placed_seen}
 use Rattle.starts.specs.inner.Ahead.{all_ahead}
 use Rattle.starts.proofs.Turned.{all_next}
 use Rattle.starts.proofs.ahead.evaluate_ahead.Goals as goal
 
-pub loop-i-init : goal.loop-i-init
+pub loop-node-init : goal.loop-node-init
 unfolding all_ahead
-loop-i-init c = (omega arith, refl, c.requires.0.bits, λ kind t. refl)
+loop-node-init c = (refl, c.requires.bits, λ kind t. refl)
 
-pub loop-i-preserved : goal.loop-i-preserved
-loop-i-preserved c =
+pub gate_ahead-requires : goal.gate_ahead-requires
+gate_ahead-requires c =
     let a = c.args in
-    let l = c.loop-i in
-    let g = c.gate_ahead in (
+    let g = a.gates in
+    let l = c.loop-node in
+    let p = c.requires.placed l.node-index (omega arith) in
+    let rows : length a.ring.now ≡ 32770 = search rules in (
+      placed_seen g.truth.now g.first.now g.list.now (a.base + 15872) a.ring.now l.ring (at g.node.now l.node-index) p l.invariant.0 l.invariant.1,
+      l.invariant.1,
+      omega (arith, p.in_size),
+    )
+
+pub loop-node-preserved : goal.loop-node-preserved
+loop-node-preserved c =
+    let a = c.args in
+    let n = a.gates in
+    let l = c.loop-node in
+    let v = at n.node.now l.node-index in
+    let g = c.gate_ahead in
+    let p = c.requires.placed l.node-index (omega arith) in
+    let rows : (length a.ring.now ≡ 32770) × (length g.new.ring ≡ 32770) = (search rules, search rules) in (
       omega arith,
-      g.auto.ring ∙ l.invariant.1,
       g.ensures.0,
       λ kind t.
-          all_next kind a.node.now a.first.now a.slots.now a.base a.ring.now l.ring _ l.i (l.invariant.3 kind t)
-          (rw add-one at (g.ensures.1 (at kind (at a.node.now l.i)) (rw add-one (t l.i c.loop-i-test.true)))),
+          all_next kind n.node.now n.first.now n.list.now a.base a.ring.now l.ring _ l.node-index (l.invariant.2 kind t)
+          (rw add-one at (g.ensures.1 (at kind v) (rw (add-one, part_length n.list.now (at n.first.now v) (at n.first.now (suc v)) p.in_list) (t l.node-index (omega arith))))),
     )

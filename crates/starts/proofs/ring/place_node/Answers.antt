@@ -1,12 +1,24 @@
 -- A slot is one of the ring's.
-use Rattle.std.proofs.Common.{arith}
+use Rattle.std.proofs.Common.{◌≡◌, ap, ◌∙◌, arith, ◌<◌, length, rules}
+use mathlib.Core.Path.{ap₂}
 use Rattle.graph.specs.Columns.{at}
-use Rattle.starts.proofs.Slots.{slot_in}
+use Rattle.starts.specs.inner.Ring.{slot_of, edge_slot}
+use Rattle.starts.proofs.Slots.{slot_in, puts_more}
 use Rattle.starts.proofs.ring.place_node.Goals as goal
 
 pub overflow_cast-slots : goal.overflow_cast-slots
 overflow_cast-slots c =
+    let e = c.of.result in
+    omega (arith, c.slot.ensures, slot_in e.from e.registers e.start c.args.s e.source)
+
+pub loop-k-preserved : goal.loop-k-preserved
+loop-k-preserved c =
     let a = c.args in
     let l = c.loop-k in
-    let e = at a.ins.now l.k in
-    omega (arith, c.slot.ensures, slot_in (at a.from.now e) (at a.count.now e) (at a.start.now e) a.s (c.requires.edges l.k l.invariant.0 c.loop-k-test.true).source)
+    let net = a.net.now in
+    let e = at a.ins.now.list l.k in
+    let o = c.of.ensures in
+    let is : c.slot.result ≡ edge_slot net.from net.count net.start a.s e =
+    c.slot.ensures ∙ ap₂ (λ u w. slot_of u w c.of.result.start a.s) o.from o.registers ∙ ap (λ x. slot_of (at net.from e) (at net.count e) x a.s) o.start in
+    let room : l.k < length l.slots = search rules in
+    puts_more a.ins.now.list net.from net.count net.start a.s (at a.ins.now.begin a.v) l.k a.slots.now l.slots c.slot.result is room (omega arith) l.invariant

@@ -1,11 +1,7 @@
 -- `starts::ring::place_node` meets its contract: the places below k are done.
-use Rattle.std.proofs.Common.{◌≡◌, ◌-◌, ◌≤◌, length}
+use Rattle.graph.specs.Columns.{at}
 use Rattle.starts.specs.inner.Ring.{Puts}
 use Rattle.starts.proofs.ring.place_node.Given as goal
 
 abbrev pub invariant-loop-k : goal.invariant-loop-k
-invariant-loop-k l =
-    (l.lo ≤ l.k) × (l.k ≤ l.hi) × (length l.slots ≡ length l.initial.slots) × Puts l.ins l.from l.count l.start l.s l.lo l.k l.initial.slots l.slots
-
-abbrev pub decreases-loop-k : goal.decreases-loop-k
-decreases-loop-k l = l.hi - l.k
+invariant-loop-k l = Puts l.ins.list l.net.from l.net.count l.net.start l.s (at l.ins.begin l.v) l.k l.initial.slots l.slots

@@ -1,10 +1,22 @@
 -- Where no clock is asked for, nothing is asked of the ring.
-use Rattle.std.proofs.Common.{◌≡◌, length, arith, rules}
+use Rattle.std.proofs.Common.{◌≡◌, ◌<◌, ◌≤◌, ◌+◌, ℕ, List, length, arith, rules, subst, take}
+use Rattle.std.proofs.lemmas.List.{length-take-le, get_or-take}
+use Rattle.graph.specs.Columns.{at}
 use Rattle.starts.proofs.Held.{held_start, held_end}
 use Rattle.starts.proofs.ring.ring_of.Goals as goal
+
+-- Of the labels of the nodes, cut out of a longer list.
+cut : (lab : List ℕ) (nodes clocks : ℕ) → nodes ≤ length lab → ((v : ℕ) → v < length (take nodes lab) → 16384 ≤ clocks + at (take nodes lab) v) → (v : ℕ) → v < nodes → 16384 ≤ clocks + at lab v
+cut lab nodes clocks h w v l = subst (λ x. 16384 ≤ clocks + x) (get_or-take nodes lab v 0 l) (w v (rw (length-take-le nodes lab h) l))
 
 pub returns-then-clocks-eq0 : goal.returns-then-clocks-eq0
 returns-then-clocks-eq0 c =
     let a = c.args in
     let rows : length c.empty.result ≡ 32770 = search rules in
-    held_end a.net a.lab.now 0 c.empty.result (λ v h. omega (arith, c.clocks_asked-clocks.ensures.1 v h, c.if-clocks-eq0.true)) (held_start a.net a.lab.now c.empty.result rows c.empty.ensures)
+    held_end a.net.now a.lab.now 0 c.empty.result (λ v h. omega (arith, cut a.lab.now a.net.now.nodes c.clocks_asked-clocks.result c.requires.1.rows c.clocks_asked-clocks.ensures.1 v h, c.if-clocks-eq0.true))
+    (held_start a.net.now a.lab.now c.empty.result rows c.empty.ensures)
+
+pub follow-requires : goal.follow-requires
+follow-requires c =
+    let a = c.args in
+    (c.requires.0, c.requires.1, c.clocks_asked-clocks.ensures.0, cut a.lab.now a.net.now.nodes c.clocks_asked-clocks.result c.requires.1.rows c.clocks_asked-clocks.ensures.1)

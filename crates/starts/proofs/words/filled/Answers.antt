@@ -9,21 +9,18 @@ use Rattle.starts.proofs.words.filled.Goals as goal
 
 pub bounds-ring-c : goal.bounds-ring-c
 bounds-ring-c c =
-    let a = c.args in
-    let p = c.requires.word_bound in
-    omega (arith, c.slot-c.ensures, slot_in a.from a.w a.start (c.loop-t.t + 16384 - a.label) p.1, p.3)
+    let e = c.args.edge in
+    omega (arith, c.slot-c.ensures, slot_in e.from e.registers e.start (c.loop-t.t + 16384 - c.args.to.label) e.source)
 
 pub loop-t-preserved : goal.loop-t-preserved
 loop-t-preserved c =
     let a = c.args in
-    let p = c.requires.word_bound in
     let l = c.loop-t in
-    let x = at a.ring.now c.slot-c.result in (
-      omega arith,
-      omega arith,
-      subst (λ y. y < 2 ^ (l.t + 1)) (sym c.put_bit-new.ensures) (put_short l.new l.t x l.invariant.2 (p.4 c.slot-c.result)),
+    let x = at a.ring.now c.slot-c.result in
+    let put = c.put_bit-new.ensures ∙ ap (λ y. l.new + y * 2 ^ l.t) c.from.ensures in (
+      subst (λ y. y < 2 ^ (l.t + 1)) (sym put) (put_short l.new l.t x l.invariant.0 (c.requires c.slot-c.result)),
       λ f q h.
-          c.put_bit-new.ensures
-          ∙ ap₂ (λ y z. y + z * 2 ^ l.t) (l.invariant.3 f q (λ i u v. h i u (omega arith))) (ap (at a.ring.now) c.slot-c.ensures ∙ h l.t l.invariant.0 (omega arith))
+          put
+          ∙ ap₂ (λ y z. y + z * 2 ^ l.t) (l.invariant.1 f q (λ i u v. h i u (omega arith))) (ap (at a.ring.now) c.slot-c.ensures ∙ h l.t (omega arith) (omega arith))
           ∙ sym (sum_more (λ j. f j * 2 ^ j) l.t),
     )

@@ -1,5 +1,5 @@
 -- `starts::words::filled` meets its contract: the word has the start values below t.
-use Rattle.std.proofs.Common.{◌≡◌, ℕ, ◌^◌, ◌-◌, ◌<◌, ◌≤◌}
+use Rattle.std.proofs.Common.{◌≡◌, ℕ, ◌^◌, ◌<◌, ◌≤◌}
 use Rattle.graph.specs.Columns.{at}
 use Rattle.moves.specs.Moved.{word_of}
 use Rattle.starts.specs.inner.Starts.{shown_slot}
@@ -7,8 +7,5 @@ use Rattle.starts.proofs.words.filled.Given as goal
 
 abbrev pub invariant-loop-t : goal.invariant-loop-t
 invariant-loop-t l =
-    (l.chosen ≤ l.t) × (l.t ≤ l.count) × (l.new < 2 ^ l.t)
-    × ((f : ℕ → ℕ) → l.word ≡ word_of f l.chosen → ((x : ℕ) → l.chosen ≤ x → x < l.t → at l.ring (shown_slot l.from l.w l.start l.label x) ≡ f x) → l.new ≡ word_of f l.t)
-
-abbrev pub decreases-loop-t : goal.decreases-loop-t
-decreases-loop-t l = l.count - l.t
+    (l.new < 2 ^ l.t)
+    × ((f : ℕ → ℕ) → l.to.word ≡ word_of f l.to.chosen → ((x : ℕ) → l.to.chosen ≤ x → x < l.t → at l.ring (shown_slot l.edge.from l.edge.registers l.edge.start l.to.label x) ≡ f x) → l.new ≡ word_of f l.t)

@@ -1,48 +1,35 @@
 -- The start values of the edge at hand are found.
-use Rattle.std.proofs.Common.{◌≡◌, ◌≤◌, length, refl, subst, ◌∙◌, arith, rules}
-use lib.ListN.{length-set}
+use Rattle.std.proofs.Common.{◌≡◌, length, refl, subst, ap, ◌∙◌, arith, rules, length-set}
+use mathlib.Core.Path.{ap₂}
 use Rattle.graph.specs.Columns.{at}
 use Rattle.moves.specs.inner.Columns.{Filled, none}
 use Rattle.moves.proofs.Labels.{low_edges, chosen_is}
 use Rattle.moves.proofs.Fills.{filled_zeros, filled_more}
-use Rattle.starts.specs.inner.Starts.{start_at, starts_at}
-use Rattle.starts.proofs.Found.{chosen_found, fillable, shown_found}
+use Rattle.starts.specs.inner.Starts.{start_at, starts_at, shown_slot}
+use Rattle.starts.proofs.Found.{chosen_found, fillable, shown_found, shown_rows}
 use Rattle.starts.proofs.words.starts_of.Goals as goal
 
 pub loop-e-init : goal.loop-e-init
-loop-e-init c = (omega arith, refl, λ n w. filled_zeros _ 1024)
+loop-e-init c = (refl, λ n w. filled_zeros _ 1024)
 
 pub bounds-net-e : goal.bounds-net-e
 bounds-net-e c = omega (arith, low_edges _ _ c.requires.0.labelled, c.loop-e-test.true)
 
-pub bounds-net-e-in-loop-e : goal.bounds-net-e-in-loop-e
-bounds-net-e-in-loop-e c = omega (arith, low_edges _ _ c.requires.0.labelled, c.loop-e-test.true)
+pub of-requires : goal.of-requires
+of-requires c =
+    let net = c.args.net.now in
+    let rows : (length net.from ≡ 1024) × (length net.count ≡ 1024) × (length net.start ≡ 1024) = (search rules, search rules, search rules) in
+    shown_rows net c.args.lab.now c.requires.0.labelled rows.0 rows.1 rows.2 c.loop-e.e c.loop-e-test.true
 
-pub bounds-net-e-in-loop-e-2 : goal.bounds-net-e-in-loop-e-2
-bounds-net-e-in-loop-e-2 c = omega (arith, low_edges _ _ c.requires.0.labelled, c.loop-e-test.true)
-
-pub bounds-net-e-in-loop-e-3 : goal.bounds-net-e-in-loop-e-3
-bounds-net-e-in-loop-e-3 c = omega (arith, low_edges _ _ c.requires.0.labelled, c.loop-e-test.true)
-
-pub filled-requires-clause-chosen_le_count : goal.filled-requires-clause-chosen_le_count
-filled-requires-clause-chosen_le_count c =
+pub invariant_of-to : goal.invariant_of-to
+invariant_of-to c =
     let a = c.args in
     let m = c.requires.0 in
     let l = c.loop-e in
     let h = c.loop-e-test.true in
-    let many = chosen_is a.net a.lab.now a.counts.now m.counted l.e h _ _ c.up_of.ensures c.chosen_on-chosen.ensures in
-    let rows : 32770 ≤ length c.ring_of-ring.result = search rules in
-    (fillable a.net a.lab.now a.counts.now m l.e h _ many (at a.words.now l.e) c.ring_of-ring.result (c.requires.1.fits l.e h) rows c.ring_of-ring.ensures).0
-
-pub filled-requires-clause-word_bound : goal.filled-requires-clause-word_bound
-filled-requires-clause-word_bound c =
-    let a = c.args in
-    let m = c.requires.0 in
-    let l = c.loop-e in
-    let h = c.loop-e-test.true in
-    let many = chosen_is a.net a.lab.now a.counts.now m.counted l.e h _ _ c.up_of.ensures c.chosen_on-chosen.ensures in
-    let rows : 32770 ≤ length c.ring_of-ring.result = search rules in
-    (fillable a.net a.lab.now a.counts.now m l.e h _ many (at a.words.now l.e) c.ring_of-ring.result (c.requires.1.fits l.e h) rows c.ring_of-ring.ensures).1
+    let many = chosen_is a.net.now a.lab.now a.counts.now m.counted l.e h _ _ c.up_of.ensures c.chosen_on.ensures in
+    let f = fillable a.net.now a.lab.now a.counts.now m l.e h _ many (at a.words.now l.e) (c.requires.1.fits l.e h) in
+    record { short = f.0; rises = f.1; few = f.2; shown = f.3 }
 
 pub bounds-new-e : goal.bounds-new-e
 bounds-new-e c = omega (arith, low_edges _ _ c.requires.0.labelled, c.loop-e-test.true)
@@ -50,22 +37,28 @@ bounds-new-e c = omega (arith, low_edges _ _ c.requires.0.labelled, c.loop-e-tes
 pub loop-e-preserved : goal.loop-e-preserved
 loop-e-preserved c =
     let a = c.args in
+    let net = a.net.now in
     let m = c.requires.0 in
     let l = c.loop-e in
     let h = c.loop-e-test.true in
-    let many = chosen_is a.net a.lab.now a.counts.now m.counted l.e h _ _ c.up_of.ensures c.chosen_on-chosen.ensures in
-    let x = c.filled.result in (
-      omega arith,
-      length-set l.new l.e x ∙ l.invariant.1,
+    let many = chosen_is net a.lab.now a.counts.now m.counted l.e h _ _ c.up_of.ensures c.chosen_on.ensures in
+    let x = c.filled.result in
+    let o = c.of.ensures in
+    let ring = c.ring_of-ring.result in
+    let label = at a.lab.now (at net.to l.e) in (
+      length-set l.new l.e x ∙ l.invariant.0,
       λ n w.
-          filled_more (starts_at a.net a.lab.now a.counts.now n) none l.new l.e x (omega (arith, low_edges _ _ m.labelled, h, l.invariant.1))
-          (c.filled.ensures (start_at a.net a.lab.now n l.e) (chosen_found a.net a.lab.now a.counts.now m l.e h _ many n _ (w l.e h))
-          (shown_found a.net a.lab.now a.counts.now m l.e h _ many n c.ring_of-ring.result c.ring_of-ring.ensures))
-          (l.invariant.2 n w),
+          filled_more (starts_at net a.lab.now a.counts.now n) none l.new l.e x (omega (arith, low_edges _ _ m.labelled, h, l.invariant.0))
+          (c.filled.ensures (start_at net a.lab.now n l.e) (chosen_found net a.lab.now a.counts.now m l.e h _ many n _ (w l.e h))
+          (λ t lo hi.
+          ap₂ (λ u r. at ring (shown_slot u r c.of.result.start label t)) o.from o.registers
+          ∙ ap (λ s. at ring (shown_slot (at net.from l.e) (at net.count l.e) s label t)) o.start
+          ∙ shown_found net a.lab.now a.counts.now m l.e h _ many n ring c.ring_of-ring.ensures t lo hi))
+          (l.invariant.1 n w),
     )
 
 pub returns : goal.returns
 returns c =
     let a = c.args in
     let l = c.loop-e in
-    λ n w. subst (λ i. Filled (starts_at a.net a.lab.now a.counts.now n) none i l.new) (let z : l.e ≡ a.net.edges = omega arith in z) (l.invariant.2 n w)
+    λ n w. subst (λ i. Filled (starts_at a.net.now a.lab.now a.counts.now n) none i l.new) (let z : l.e ≡ a.net.now.edges = omega arith in z) (l.invariant.1 n w)

@@ -1,5 +1,5 @@
 -- `starts::words::starts_of` meets its contract: the edges below e have their new start values, whichever choice the words are of.
-use Rattle.std.proofs.Common.{◌≡◌, ℕ, ◌-◌, ◌≤◌, length}
+use Rattle.std.proofs.Common.{◌≡◌, ℕ, length}
 use Rattle.moves.specs.inner.Labels.{lags_of}
 use Rattle.moves.specs.inner.Chosen.{EdgeWords}
 use Rattle.moves.specs.inner.Columns.{Filled, none}
@@ -8,7 +8,4 @@ use Rattle.starts.proofs.words.starts_of.Given as goal
 
 abbrev pub invariant-loop-e : goal.invariant-loop-e
 invariant-loop-e l =
-    (l.e ≤ l.edges) × (length l.new ≡ 1024) × ((c : ℕ) → EdgeWords l.net (lags_of l.lab) c l.words → Filled (starts_at l.net l.lab l.counts c) none l.e l.new)
-
-abbrev pub decreases-loop-e : goal.decreases-loop-e
-decreases-loop-e l = l.edges - l.e
+    (length l.new ≡ 1024) × ((c : ℕ) → EdgeWords l.net (lags_of l.lab) c l.words → Filled (starts_at l.net l.lab l.counts c) none l.e l.new)

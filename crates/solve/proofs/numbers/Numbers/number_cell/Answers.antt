@@ -1,0 +1,74 @@
+-- A push lowers the top of the stack, which is an earlier cell then, and a pop gives a number.
+use Rattle.std.proofs.Common.{ℕ, List, length, ◌+◌, ◌-◌, ◌≤◌, ◌<◌, set, ap, sym, ◌∙◌, arith, get_or-set_same, get_or-set_other}
+use Rattle.graph.specs.Columns.{at}
+use Rattle.solve.specs.inner.Numbers.{Layers, Layered, Numbered, Waiting}
+use Rattle.solve.proofs.Numbering.{numbered_room, numbered_ready, numbered_more}
+use Rattle.solve.proofs.Levelling.{waiting_more, waiting_less}
+use Rattle.solve.proofs.numbers.Numbers.number_cell.Goals as goal
+
+-- The top of the stack is no later than cell i, by as much at least as there is below it.
+top : {m h i : ℕ} {span id stack : List ℕ} → Waiting m h i span id stack → 0 < h → at stack (h - 1) + (h - 1) ≤ i
+top {h = h} w some = omega (arith, w.falls 0 (h - 1) (omega arith) (omega arith), w.bottom)
+
+-- There is a number left for it.
+room : {L : Layers} {m n h i : ℕ} {id code stack : List ℕ} → Layered L → i < L.cells → Numbered L m n id code → Waiting m h i L.span id stack → 0 < h → n < L.cells
+room {h = h} {stack = stack} v low s w some =
+    numbered_room v.wired.few_cells s (at stack (h - 1)) (omega (arith, top w some)) (w.waits (h - 1) (omega arith))
+
+pub offset_bounds-self-h : goal.offset_bounds-self-h
+offset_bounds-self-h g c = omega (arith, top c.loop-h.invariant.waiting c.loop-h-test.true, c.args.self.now.cells.wired.few_cells)
+
+-- There is room on the stack, as what is missing is an earlier cell than its top.
+pub loop-h-preserved-in-Some : goal.loop-h-preserved-in-Some
+loop-h-preserved-in-Some g c =
+    let s = c.loop-h.self in
+    let f = c.loop-h.invariant.further in
+    let w = c.loop-h.invariant.waiting in
+    let m = c.in-Some.ensures in
+    let low : c.args.i < s.cells.count = omega (arith, ap (λ x. x.count) f.cells) in
+    let rows : c.loop-h.h < length s.stack = omega (arith, top w c.loop-h-test.true, m.below, s.numbered.code_rows) in
+    record {
+      further = record { cells = f.cells; span = f.span; level = f.level; more = f.more; kept = f.kept };
+      waiting = waiting_more w c.loop-h-test.true c.in-Some.source rows m.below (m.same_level ∙ w.level (c.loop-h.h - 1) (omega arith)) m.free;
+      done = λ z. absurd (let y : ⊥ = omega arith in y);
+    }
+
+pub bounds-self-self : goal.bounds-self-self
+bounds-self-self g c =
+    let s = c.loop-h.self in
+    let low : c.args.i < s.cells.count = omega (arith, ap (λ x. x.count) c.loop-h.invariant.further.cells) in
+    let r = room s.layered low s.numbered c.loop-h.invariant.waiting c.loop-h-test.true in
+    omega (arith, s.numbered.code_rows)
+
+pub invariant_of-self-in-None : goal.invariant_of-self-in-None
+invariant_of-self-in-None g c =
+    let s = c.loop-h.self in
+    let f = c.loop-h.invariant.further in
+    let w = c.loop-h.invariant.waiting in
+    let few = s.cells.wired.few_cells in
+    let t = at s.stack (c.loop-h.h - 1) in
+    let low : t < s.cells.count = omega (arith, top w c.loop-h-test.true, ap (λ x. x.count) f.cells) in
+    let own = w.level (c.loop-h.h - 1) (omega arith) in
+    record {
+      layered = s.layered;
+      numbered = numbered_more few s.numbered s.layered.wired low own (w.waits (c.loop-h.h - 1) (omega arith)) (numbered_ready few s.numbered s.layered low own c.in-None.ensures);
+    }
+
+pub loop-h-preserved : goal.loop-h-preserved
+loop-h-preserved g c =
+    let s = c.loop-h.self in
+    let f = c.loop-h.invariant.further in
+    let w = c.loop-h.invariant.waiting in
+    let t = at s.stack (c.loop-h.h - 1) in
+    let few = s.cells.wired.few_cells in
+    record {
+      further = record {
+        cells = f.cells;
+        span = f.span;
+        level = f.level;
+        more = omega (arith, f.more);
+        kept = λ q h. get_or-set_other s.code s.next q t 0 (λ z. omega (arith, f.more)) ∙ f.kept q h;
+      };
+      waiting = waiting_less w c.loop-h-test.true s.next;
+      done = λ z. omega (arith, ap (at (set s.id t s.next)) (sym (ap (at s.stack) z ∙ w.bottom)) ∙ get_or-set_same s.id t s.next 0 (omega (arith, top w c.loop-h-test.true, ap (λ x. x.count) f.cells, s.numbered.id_rows)));
+    }
