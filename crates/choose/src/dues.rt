@@ -137,7 +137,7 @@ pub fn dues_of(
     rows.begin[0] = 0;
     rows.count = 0;
     let mut low = 0;
-    // Kept: no index is counted, a run ends past twice its beginning (d).
+    // Kept: no index is counted, a run ends past twice its beginning.
     while low < top {
         let high = (2 * low + 1).min(24);
         put_run(task, &along, id, Run { low, high }, due, rows);

@@ -80,6 +80,7 @@ impl Layer {
 }
 
 // Passes up to one that marks nothing, `most` of them at most. What holds after each of them, holds after the last.
+// Kept: `pin` is a number, since this crate knows no gate kinds: it stands beside rules.
 pub fn walk(wires: Wires<'_>, kind: &[u8], pin: u8, most: usize) -> Layer
     requires { wires.nodes ≤ length kind.now }
     ensures after { AfterPasses wires.entry kind.now pin result }
@@ -88,7 +89,7 @@ pub fn walk(wires: Wires<'_>, kind: &[u8], pin: u8, most: usize) -> Layer
 {
     let links = edges_by_node(wires.from, wires.nodes, wires.edges);
     let mut layer = Layer::first(wires, kind, pin);
-    // Kept: whether there is one more pass, the last one says.
+    // Kept: whether there is one more pass, the last one says; the layer counts its passes itself, as it is handed out with them.
     while layer.lo < layer.hi && layer.passes < most {
         layer.pass(wires, &links);
     }

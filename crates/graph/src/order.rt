@@ -92,7 +92,7 @@ impl Placing {
         ensures { Going both.now self.new self.new.placed }
     {
         let mut i = 0;
-        // Kept: the end of the order moves while it is gone through.
+        // Kept: no range, as the end of the order moves while it is gone through.
         while i < self.placed {
             self.take(both, self.order[i] as usize);
             i += 1;

@@ -3,7 +3,7 @@ ghost use Rattle.std.specs.Prelude.{◌≡◌, ◌<◌, ◌≤◌, length};
 ghost use Rattle.graph.specs.inner.Laid.{Laid};
 
 // `laid` is what reading makes sure of, and what every walk over the columns goes by.
-// Kept: the columns stand whole beside how many edges count, so that what is found is said of the record's own columns.
+// Kept: the columns stand whole beside how many edges count: cut, each law of the crates above would speak of `take edges net.from`, no plainer.
 #[derive(Clone, Copy)]
 pub struct Wires<'a> {
     pub nodes: usize,

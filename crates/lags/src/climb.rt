@@ -48,6 +48,7 @@ pub enum Climbed {
 }
 
 // The mark that a node has by its kind alone.
+// Kept: the number as the record has it, as in rules `is_pin`.
 #[tactic(auto, unfolding(crate::specs::inner::Climb::floor_of))]
 fn floor_of(kind: u8) -> u64
     ensures { result ≡ floor_of kind }

@@ -32,6 +32,7 @@ pub struct Ground {
 }
 
 // Found once for all periods. What is required, `Sure`, is true of every netlist that reads (proofs/Laws, `read_sure`).
+// Kept: `Sure` is a clause and no ghost field, as `Ready` in src/query.rt: it has a walk for each gate in it.
 #[tactic(auto, using(crate::proofs::Wires::reads))]
 pub fn ground_of(net: Netlist) -> Ground
     requires { Sure net }

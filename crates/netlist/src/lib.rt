@@ -20,6 +20,7 @@ pub use walking::walk;
 pub use writing::{put_text, write, written_len};
 
 // "A netlist is its head, its N nodes and its E edges; record rows past them are read by nothing, and reading makes them 0."
+// Kept: the C interface lends this record, so its columns have a fixed length, and gate kinds are bytes in it.
 #[repr(C)]
 #[derive(Clone, Copy)]
 pub struct Netlist {

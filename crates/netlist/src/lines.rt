@@ -17,6 +17,7 @@ use rules::{edge_fits, head_fits, node_fits};
 pub const FIRST_LINE: usize = 2;
 
 // A record with this head and no rows.
+// Kept: four numbers and no struct, as in rules `head_fits`.
 pub fn with_head(period: u16, derate: u8, nodes: u16, edges: u16) -> Netlist
     ensures { result ≡ with_head period derate nodes edges }
 {
@@ -58,6 +59,7 @@ fn read_nodes(table: &DigitTable, text: &[u8], headed: Filled) -> Result<Filled,
     ensures { Goes result (nodes_from headed.net.nodes 0 (line_of_node headed.net 0) (drop headed.at text.now) headed.net) (λ f. edges_from f.net.edges 0 (line_of_edge f.net 0) (drop f.at text.now) f.net) }
 {
     let mut net = headed.net;
+    // Kept: a cursor: specs/Read goes line by line, and no offset is computed in closed form.
     let mut at = headed.at;
     for v in 0..net.nodes as usize {
         let line = (FIRST_LINE + v) as u16;

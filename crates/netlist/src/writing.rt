@@ -31,7 +31,7 @@ fn edge_bytes(from: u16, to: u16, count: u8, start: u32) -> [u8; 10]
     [3, u[0], u[1], v[0], v[1], count, s[0], s[1], s[2], s[3]]
 }
 
-// The node lines from the cursor `at0`; the cursor past them.
+// The node lines from the cursor `at0`; the cursor past them. No offset is computed in closed form, so it goes line by line.
 // Kept: tried as one function with `put_edges`, with a closure of type `Fn(usize) -> [u8; N]` for the bytes, but a bound that names a const parameter gets no proof.
 fn put_nodes(net: Netlist, out: &mut [u8], at0: usize) -> usize
     requires { (net.nodes ≤ 512) × (at0 + length (joined (node_line net) net.nodes) ≤ length out.old) }
@@ -67,6 +67,7 @@ fn text_len(net: Netlist) -> usize
 }
 
 // How many bytes the text has that retiming writes for a record: it depends neither on the lags nor on the start values.
+// Kept: two promises about one number: a request may make the retimed text shorter.
 pub fn written_len(net: Netlist) -> usize
     ensures { result ≡ length (text_of (plain net)) }
 {
@@ -78,6 +79,7 @@ const MOST_NODES: u16 = NODES as u16;
 const MOST_EDGES: u16 = EDGES as u16;
 
 // The text at the front of `out`, where the record has its rows and there is room; how many bytes that took, 0 where it left `out`.
+// Kept: 0 is no number for none here: it is how many bytes were put.
 pub fn put_text(net: Netlist, out: &mut [u8]) -> usize
     ensures out_after { out.new ≡ sets out.old 0 (text_in net (length out.old)) }
     ensures value { result ≡ length (text_in net (length out.old)) }

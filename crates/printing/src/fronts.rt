@@ -5,6 +5,7 @@ ghost use Rattle.frame.specs.Frame.{line_of, placed};
 ghost use Rattle.printing.specs.Shown.{line_in};
 
 // The line of these bytes at the front of `out`, where there is room for it; how many bytes that took.
+// Kept: 0 is no number for none here: it is how many bytes were put. So in all that prints.
 pub fn put_front(bytes: &[u8], out: &mut [u8]) -> usize
     requires { length bytes.now ≤ 16 }
     ensures out_after { out.new ≡ placed out.old 0 (line_of bytes.now) }

@@ -23,6 +23,7 @@ fn lag_bytes(node: u16, lag: i16) -> [u8; 5]
 }
 
 // The lines of the lags, from the cursor `at0`; the cursor past them.
+// Kept: as netlist `put_nodes`: a bound `Fn` that names a const parameter gets no proof.
 fn put_lag_lines(lags: &[i32], out: &mut [u8], at0: usize) -> usize
     requires nodes_bound { (length lags.now ≤ 512) × (at0 + length (joined (lag_line lags.now) (length lags.now)) ≤ length out.old) }
     requires by_index { (v : ℕ) → v < length lags.now → (up (get_or lags.now v (pos 0)) < 32768) × (down (get_or lags.now v (pos 0)) ≤ 32768) }
@@ -47,6 +48,7 @@ fn list(text: &[u8], out: &mut [u8]) -> usize
     if let Err(reason) = retime::retime(text, out, &mut lags) {
         return put_refusal(reason, out);
     }
+    // Kept: retiming promises no netlist, so how many nodes there are is read again.
     match netlist::read(text) {
         Ok(net) => put_lag_lines(&lags[..usize::from(net.nodes)], out, written_len(net)),
         Err(reason) => put_refusal(reason, out),

@@ -29,6 +29,7 @@ fn rail_bytes(node: u16, rails: u32) -> [u8; 7]
 }
 
 // The lines of the nodes' rails, behind that of the total.
+// Kept: as netlist `put_nodes`: a bound `Fn` that names a const parameter gets no proof.
 fn put_nodes(table: &[u32], out: &mut [u8])
     requires { (length table.now ≤ 512) × (11 + 15 * length table.now ≤ length out.old) }
     ensures { out.new ≡ sets out.old 11 (joined (rail_line table.now) (length table.now)) }
@@ -62,6 +63,7 @@ pub fn put_rails(text: &[u8], table: &mut [u32], out: &mut [u8]) -> usize
         Ok(total) => total,
         Err(reason) => return put_refusal(reason, out),
     };
+    // Kept: counting promises no netlist, so how many nodes there are is read again.
     match netlist::read(text) {
         Ok(net) => put_counted(total, &table[..usize::from(net.nodes)], out),
         Err(reason) => put_refusal(reason, out),

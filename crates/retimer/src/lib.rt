@@ -13,6 +13,7 @@ use netlist::Netlist;
 use simulate::Machine;
 
 // A quote's figures: the register total, the largest count on an edge, the number of values to choose.
+// Kept: the C interface lends this record.
 #[repr(C)]
 #[derive(Clone, Copy)]
 pub struct Figures {

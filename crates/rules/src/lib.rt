@@ -34,6 +34,7 @@ const NODES: u16 = 512;
 const EDGES: u16 = 1024;
 
 // Rule 2.
+// Kept: four numbers and no struct: the record that C lends has them side by side, so a head would be filled at each call and taken apart at once.
 #[tactic(auto, unfolding(crate::specs::Rules::head_fits))]
 pub fn head_fits(period: u16, derate: u8, nodes: u16, edges: u16) -> bool
     ensures { result ≡ head_fits period derate nodes edges }
@@ -48,6 +49,7 @@ pub fn head_fits(period: u16, derate: u8, nodes: u16, edges: u16) -> bool
 }
 
 // Rule 3.
+// Kept: the number as a line has it, known or not: that it is a kind's is what the rule decides.
 #[tactic(auto, unfolding(crate::specs::Rules::node_fits))]
 pub fn node_fits(kind: u8, delay: u8) -> bool
     ensures { result ≡ node_fits kind delay }
@@ -71,6 +73,7 @@ fn kind_at(kinds: &[u8], v: u16) -> u8
 }
 
 // Rule 4. `kinds` are the gate kinds of the nodes.
+// Kept: an edge's numbers and no struct, as in `head_fits`.
 #[tactic(auto, unfolding(crate::specs::Rules::edge_fits))]
 pub fn edge_fits(kinds: &[u8], nodes: u16, u: u16, v: u16, count: u8, start: u32) -> bool
     ensures { result ≡ edge_fits nodes (λ i. get_or kinds.now i 0) u v count start }
@@ -84,6 +87,7 @@ pub fn edge_fits(kinds: &[u8], nodes: u16, u: u16, v: u16, count: u8, start: u32
 }
 
 // Rule 5: whether a node of this kind may have so many in-edges.
+// Kept: the number as the record has it; `Kind::try_from` at each call would give it back only to be looked up.
 pub fn fan_fits(kind: u8, ins: u16) -> bool
     ensures { result ≡ within (rule_of kind).fewest (rule_of kind).most ins }
 {
@@ -92,6 +96,7 @@ pub fn fan_fits(kind: u8, ins: u16) -> bool
 }
 
 // Whether a node of this kind is an input or an output.
+// Kept: the number as the record has it: one comparison, in hot loops.
 pub fn is_pin(kind: u8) -> bool
     ensures { result ≡ leb kind 1 }
 {

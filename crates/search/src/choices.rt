@@ -180,6 +180,7 @@ pub fn best_list(
         due: 0,
     };
     // Kept: the search goes on where a jump says, so no range counts its loops: they nest over edges and their moved clocks, and are left by a label.
+    // The inner one counts its due itself, as that is where the search goes on.
     'search: while turn.choice < e.limit {
         // Edges, those first whose values depend on few leading bits; and of each its moved clocks.
         while turn.due < e.dues {

@@ -36,6 +36,7 @@ const FEW_SIGNALS: usize = BITS + FEW_CELLS;
 const LEVELS: usize = 26;
 
 // A program in columns: of each cell the kind of its gate, and where its operands begin; all operands.
+// Kept: `kind` is a column of the record's bytes, each of which `put_truths` takes for a gate kind once.
 #[derive(Clone, Copy)]
 pub struct Program<'a> {
     pub kind: &'a [u8],

@@ -15,6 +15,7 @@ pub use running::run;
 pub use stepping::{step, step_in_place};
 
 // "a machine record: one 32-bit word per edge, laid out as start values; words past the E-th are neither read nor changed."
+// Kept: the C interface lends this record.
 #[repr(C)]
 #[derive(Clone, Copy)]
 pub struct Machine {

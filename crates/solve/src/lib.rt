@@ -32,7 +32,7 @@ const FEW_FIRSTS: usize = FEW_CELLS + 1;
 
 const FEW_OPERANDS: usize = 2048;
 
-// A cell without a number.
+// A cell without a number (in `Numbers`, which says why it is no Option).
 const NONE: u16 = 12288;
 
 // Where the levels 0 to 24 begin, and where the last ends.

@@ -59,6 +59,7 @@ fn gate_ahead(truth: u16, index: &IndexTable, sees: &[u16], place: usize, ring: 
     requires { InputRows truth sees.now ring.old × AllBits ring.old × (place + 15872 < 32770) }
     ensures { AllBits ring.new × ((kind : ℕ) → Reckons kind (length sees.now) truth → ring.new ≡ ahead kind sees.now place 32 ring.old) }
 {
+    // Kept: the numbers of inputs one by one, since a const argument is written and not computed.
     match sees.len() {
         0 => clocks::<0>(truth, index, sees, place, ring),
         1 => clocks::<1>(truth, index, sees, place, ring),
@@ -130,6 +131,7 @@ fn leads_on(net: &Netlist, place: &[u16; NODES]) -> bool
 }
 
 // How many clocks are taken at clock s: 32 from there on, or 1.
+// Kept: a number and no enum: it is how many clocks are added to s, so an enum would be turned back into it at once.
 pub fn stride(net: &Netlist, list: &Nodes, s: usize) -> usize
     requires few { net.now.edges ≤ 1024 }
     requires by_index { ((i : ℕ) → i < list.now.count → at list.now.node i < 512) × ((e : ℕ) → e < net.now.edges → (at net.now.from e < 512) × (at net.now.to e < 512)) }

@@ -143,7 +143,7 @@ fn follow(net: &Netlist, lab: &[u32], clocks: usize) -> [u8; SLOTS]
     let index = IndexTable::new();
     let mut slots = [0u16; EDGES];
     let mut s = 0;
-    // Kept: no index is counted, `stride` says how many clocks are taken (d).
+    // Kept: no index is counted, `stride` says how many clocks are taken.
     while s < clocks {
         list.refresh(lab, s);
         turn(net, &ins, &list, s, &mut slots);
