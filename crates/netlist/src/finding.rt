@@ -1,4 +1,5 @@
 // The search of rules 3, 4, 5 and 7: the lowest node or edge that breaks a rule.
+// Private to the crate: what is required says that the test may be asked of each of them.
 ghost use Rattle.std.specs.Prelude.{ℕ, ◌<◌};
 ghost use Rattle.netlist.specs.inner.Stages.{Found};
 

@@ -1,4 +1,5 @@
 // Rule 13, and how many inputs and outputs there are.
+// Private to the crate: `run` and `step` come here with a netlist that passed the rules, which has an input.
 ghost use Rattle.std.specs.Prelude.{◌≡◌, ◌∷◌, [], ◌<◌, ◌≤◌, ◌%◌, eqb, length};
 ghost use Rattle.rules.specs.Kinds.{number_of};
 ghost use Rattle.rules.specs.Rules.{every};

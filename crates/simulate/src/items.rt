@@ -1,4 +1,5 @@
 // A list in fixed memory, since nothing here may fail for want of it.
+// Private to the crate: who picks says how many numbers there are to pick from, which its room bounds.
 ghost use Rattle.std.specs.Prelude.{◌≡◌, ◌∷◌, ◌++◌, [], List, Option, ℕ, ◌<◌, ◌≤◌, length, take};
 ghost use Rattle.simulate.specs.inner.Picks.{picks};
 

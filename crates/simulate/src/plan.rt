@@ -1,4 +1,5 @@
 // The evaluation plan, made once per netlist.
+// Private to the crate: `clocks_of` has the circuit that it is made of, and the signals that it runs on.
 ghost use Rattle.std.specs.Prelude.{◌≡◌, cond, List, ℕ, ◌+◌, ◌<◌, ◌≤◌, eqb, length};
 ghost use Rattle.graph.specs.Columns.{at};
 ghost use Rattle.graph.specs.inner.Lists.{Filtered};
