@@ -18,3 +18,7 @@ pub mod Stage
 pub mod Evaluation
 -- For users: reach from inputs and to outputs; loops.
 pub mod Laws
+-- Lists that are picked.
+pub mod Picks
+-- Places in a list.
+pub mod Places

@@ -9,3 +9,5 @@ pub mod Laid
 pub mod Layers
 -- The evaluation order, node by node.
 pub mod Order
+-- Lists that are picked.
+pub mod Picks

@@ -2,7 +2,7 @@
 ghost use Rattle.std.specs.Prelude.{◌≡◌, ◌<◌, ◌≤◌, length, replicate};
 ghost use Rattle.graph.specs.inner.Sort.{Sorts, EdgesOf};
 
-use crate::{EdgesByNode, Wires, edges_by_node};
+use crate::{EdgesByNode, Wires};
 
 // count: how many registers each edge has. Found once for all that goes through the graph edge by edge.
 #[derive(Clone, Copy)]
@@ -25,8 +25,8 @@ impl<'a> BothWays<'a> {
         BothWays {
             wires,
             count,
-            ins: edges_by_node(wires.to, wires.nodes, wires.edges),
-            outs: edges_by_node(wires.from, wires.nodes, wires.edges),
+            ins: wires.entering(),
+            outs: wires.leaving(),
         }
     }
 

@@ -8,10 +8,10 @@ ghost use Rattle.graph.specs.inner.Laid.{From};
 ghost use Rattle.graph.specs.inner.Sort.{Sorts};
 ghost use Rattle.graph.specs.inner.Layers.{Queued, with_mark, EndOf, Spread, Steady, AfterPasses, PassLeaves};
 
-use crate::{EdgesByNode, NODES, Wires, edges_by_node};
+use crate::{EdgesByNode, NODES, Wires};
 
 // After so many passes: the marked nodes at the front of `queue`, those that the last pass marked from place `lo` up to `hi`.
-// Kept: an array beside a length, since there is no heap.
+// Kept: an array beside how many stand in it, since a layer is handed out and is Copy, which `Items` cannot be: what it hides its value does not give back.
 #[derive(Clone, Copy)]
 pub struct Layer {
     pub passes: usize,
@@ -87,7 +87,7 @@ pub fn walk(wires: Wires<'_>, kind: &[u8], pin: u8, most: usize) -> Layer
     ensures few { result.passes ≤ most }
     ensures ended { result.passes < most → result.hi ≤ result.lo }
 {
-    let links = edges_by_node(wires.from, wires.nodes, wires.edges);
+    let links = wires.leaving();
     let mut layer = Layer::first(wires, kind, pin);
     // Kept: whether there is one more pass, the last one says; the layer counts its passes itself, as it is handed out with them.
     while layer.lo < layer.hi && layer.passes < most {

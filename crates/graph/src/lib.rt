@@ -5,14 +5,18 @@
 mod along;
 mod both_ways;
 mod by_node;
+mod columns;
+mod items;
 mod layers;
 mod order;
 mod reach;
 mod sort;
 mod wires;
 
-pub use along::edges_along;
+pub use along::{edges_along, places_of};
 pub use by_node::{EdgesByNode, edges_by_node};
+pub use columns::column;
+pub use items::Items;
 pub use layers::{Layer, reached, walk};
 pub use order::{evaluation_order, looped};
 pub use reach::{any_above, fan_ins};

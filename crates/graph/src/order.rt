@@ -13,7 +13,7 @@ use crate::both_ways::BothWays;
 use crate::{EDGES, NODES, Wires};
 
 // The order so far: its nodes at the first `placed` places of `order`, and marked. Which edges are open.
-// Kept: an array beside a length, since there is no heap.
+// Kept: an array beside how many stand in it, since `evaluation_order` hands out the array: `Items` cannot be Copy, as what keeps the order is.
 #[derive(Clone, Copy)]
 pub struct Placing {
     pub placed: usize,

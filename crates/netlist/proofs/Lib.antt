@@ -19,6 +19,8 @@ pub mod Lowest
 pub mod Decide
 -- They say the same of netlists that are the same.
 pub mod Alike
+-- A record's edges as wires.
+pub mod Wiring
 -- The theorems of specs/Theorems.
 pub mod theorems
 -- What leaves by a `?`.

@@ -4,3 +4,5 @@ pub mod Stages
 pub mod Words
 -- Between the stages of checking a record.
 pub mod Record
+-- A record's edges as wires.
+pub mod Wiring

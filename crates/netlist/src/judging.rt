@@ -6,7 +6,6 @@ ghost use Rattle.netlist.specs.Theorems.{Fit};
 
 use crate::finding::lowest;
 use crate::{Netlist, Refusal};
-use graph::Wires;
 use rules::{Kind, fan_fits};
 
 // Rules 5, 6 and 7 in turn: the lowest node with a wrong number of in-edges; a loop; the lowest node that no input reaches, or that reaches no output.
@@ -15,12 +14,7 @@ pub fn judge(net: Netlist) -> Result<(), Refusal>
     ensures { Judged net (says_of result) }
 {
     let nodes = net.nodes as usize;
-    let wires = Wires {
-        nodes,
-        edges: net.edges as usize,
-        from: &net.from,
-        to: &net.to,
-    };
+    let wires = net.wires();
     let ins = graph::fan_ins(wires);
     if let Some(v) = lowest(nodes, |v| fan_fits(net.kind[v], ins[v])) {
         return Err(Refusal::FanIn(v as u16));

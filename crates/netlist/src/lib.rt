@@ -11,6 +11,7 @@ mod lines;
 mod refusing;
 mod rewriting;
 mod walking;
+mod wires;
 mod writing;
 
 pub use checking::check;

@@ -1,6 +1,6 @@
-// A refusal in the paper's numbers, and in words.
+// A refusal and its place in the paper's numbers, and a refusal in words.
 ghost use Rattle.std.specs.Prelude.{◌≡◌};
-ghost use Rattle.netlist.specs.Answer.{number_of, place_of};
+ghost use Rattle.netlist.specs.Answer.{number_of, place_of, kind_of, index_of};
 
 use crate::{Place, Refusal};
 use std::error::Error;
@@ -45,6 +45,30 @@ impl Refusal {
             | Refusal::Start
             | Refusal::Room
             | Refusal::Vectors => Place::Whole,
+        }
+    }
+}
+
+impl Place {
+    // "place kind (1: 00 whole, 01 line, 02 node, 03 edge)"
+    pub fn kind(self) -> u8
+        ensures { result ≡ kind_of self }
+    {
+        match self {
+            Place::Whole => 0,
+            Place::Line(_) => 1,
+            Place::Node(_) => 2,
+            Place::Edge(_) => 3,
+        }
+    }
+
+    // "place (2, 0 for whole)"
+    pub fn index(self) -> u16
+        ensures { result ≡ index_of self }
+    {
+        match self {
+            Place::Whole => 0,
+            Place::Line(n) | Place::Node(n) | Place::Edge(n) => n,
         }
     }
 }

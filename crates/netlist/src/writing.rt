@@ -84,13 +84,7 @@ pub fn put_text(net: Netlist, out: &mut [u8]) -> usize
     ensures out_after { out.new ≡ sets out.old 0 (text_in net (length out.old)) }
     ensures value { result ≡ length (text_in net (length out.old)) }
 {
-    if MOST_NODES < net.nodes {
-        return 0;
-    }
-    if MOST_EDGES < net.edges {
-        return 0;
-    }
-    if out.len() < text_len(net) {
+    if MOST_NODES < net.nodes || MOST_EDGES < net.edges || out.len() < text_len(net) {
         return 0;
     }
     let b = head_bytes(net.period, net.derate, net.nodes, net.edges);

@@ -1,7 +1,7 @@
--- `graph::along::places_of` meets its contract: whatever is filled is a place.
-use Rattle.std.proofs.Common.{ℕ, ◌<◌, length}
-use Rattle.graph.specs.Columns.{at}
+-- `graph::along::places_of` meets its contract: the places of the first p nodes.
+use Rattle.std.proofs.Common.{◌≡◌, length}
+use Rattle.graph.specs.inner.Sort.{Places}
 use Rattle.graph.proofs.along.places_of.Given as goal
 
 abbrev pub invariant-loop-p : goal.invariant-loop-p
-invariant-loop-p l = (v : ℕ) → v < length l.order → at l.place v < length l.order
+invariant-loop-p l = (length l.place ≡ 512) × Places l.list l.p l.place

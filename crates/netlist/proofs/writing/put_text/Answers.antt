@@ -1,34 +1,27 @@
 -- `netlist::writing::put_text` meets its contract: nothing, or the head, the node lines and the edge lines, each behind the one before.
-use Rattle.std.proofs.Common.{◌≤◌, arith, ap, ap₂, sym, ◌∙◌, length}
+use Rattle.std.proofs.Common.{◌≡◌, ◌≤◌, [], arith, ap, ap₂, sym, ◌∙◌, length}
 use Rattle.std.proofs.lemmas.List.Edits.{sets}
 use Rattle.frame.specs.Frame.{line_of, placed}
-use Rattle.netlist.specs.Write.{node_line, edge_line, joined, text_of}
+use Rattle.netlist.specs.Write.{node_line, edge_line, joined, text_of, text_in}
 use Rattle.netlist.proofs.Fields.{line_size}
 use Rattle.netlist.proofs.Written.{head_length, parts_length, text_parts, text_in_room, text_nodes, text_edges, text_room}
 use Rattle.netlist.proofs.writing.put_text.Goals as goal
+use Rattle.netlist.proofs.writing.put_text.Goals.{Joined-then-net-gt-MOST_NODES}
+use Rattle.netlist.proofs.writing.put_text.Goals.{then-net-gt-MOST_NODES-via-then-net-gt-MOST_NODES, then-net-gt-MOST_NODES-via-else-net-gt-MOST_NODES+then-net-gt-MOST_EDGES, then-net-gt-MOST_NODES-via-else-net-gt-MOST_NODES+else-net-gt-MOST_EDGES+then-out-text_len}
+
+-- Where one of the tests fails, there is no text.
+none : (c : Joined-then-net-gt-MOST_NODES) → text_in c.args.net (length c.args.out.now) ≡ []
+none c = elim c.then-net-gt-MOST_NODES.branch [
+  | then-net-gt-MOST_NODES-via-then-net-gt-MOST_NODES w ↦ text_nodes c.args.net (length c.args.out.now) w.if-net-gt-MOST_NODES.true
+  | then-net-gt-MOST_NODES-via-else-net-gt-MOST_NODES+then-net-gt-MOST_EDGES w ↦ text_edges c.args.net (length c.args.out.now) w.if-net-gt-MOST_NODES.false w.if-net-gt-MOST_EDGES.true
+  | then-net-gt-MOST_NODES-via-else-net-gt-MOST_NODES+else-net-gt-MOST_EDGES+then-out-text_len w ↦ text_room c.args.net (length c.args.out.now) w.if-net-gt-MOST_NODES.false w.if-net-gt-MOST_EDGES.false (omega (arith, w.text_len.ensures))
+]
 
 pub returns-then-net-gt-MOST_NODES-clause-out_after : goal.returns-then-net-gt-MOST_NODES-clause-out_after
-returns-then-net-gt-MOST_NODES-clause-out_after c = sym (ap (sets c.args.out.now 0) (text_nodes c.args.net (length c.args.out.now) c.if-net-gt-MOST_NODES.true))
+returns-then-net-gt-MOST_NODES-clause-out_after c = sym (ap (sets c.args.out.now 0) (none c))
 
 pub returns-then-net-gt-MOST_NODES-clause-value : goal.returns-then-net-gt-MOST_NODES-clause-value
-returns-then-net-gt-MOST_NODES-clause-value c = sym (ap length (text_nodes c.args.net (length c.args.out.now) c.if-net-gt-MOST_NODES.true))
-
-pub returns-then-net-gt-MOST_EDGES-clause-out_after : goal.returns-then-net-gt-MOST_EDGES-clause-out_after
-returns-then-net-gt-MOST_EDGES-clause-out_after c =
-    sym (ap (sets c.args.out.now 0) (text_edges c.args.net (length c.args.out.now) c.if-net-gt-MOST_NODES.false c.if-net-gt-MOST_EDGES.true))
-
-pub returns-then-net-gt-MOST_EDGES-clause-value : goal.returns-then-net-gt-MOST_EDGES-clause-value
-returns-then-net-gt-MOST_EDGES-clause-value c =
-    sym (ap length (text_edges c.args.net (length c.args.out.now) c.if-net-gt-MOST_NODES.false c.if-net-gt-MOST_EDGES.true))
-
-pub returns-then-out-text_len-clause-out_after : goal.returns-then-out-text_len-clause-out_after
-returns-then-out-text_len-clause-out_after c =
-    sym (ap (sets c.args.out.now 0)
-    (text_room c.args.net (length c.args.out.now) c.if-net-gt-MOST_NODES.false c.if-net-gt-MOST_EDGES.false (omega (arith, c.text_len.ensures))))
-
-pub returns-then-out-text_len-clause-value : goal.returns-then-out-text_len-clause-value
-returns-then-out-text_len-clause-value c =
-    sym (ap length (text_room c.args.net (length c.args.out.now) c.if-net-gt-MOST_NODES.false c.if-net-gt-MOST_EDGES.false (omega (arith, c.text_len.ensures))))
+returns-then-net-gt-MOST_NODES-clause-value c = sym (ap length (none c))
 
 -- Past the three tests there is room, and the text is put.
 pub put_nodes-at-requires : goal.put_nodes-at-requires

@@ -1,6 +1,6 @@
--- `lags::column::column` meets its contract: the places below i are made.
+-- `graph::columns::column` meets its contract: the places below i are made.
 use Rattle.std.proofs.Common.{ℕ, ◌<◌, get_or}
-use Rattle.lags.proofs.column.column.Given as goal
+use Rattle.graph.proofs.columns.column.Given as goal
 
 abbrev pub invariant-loop-i : goal.invariant-loop-i
 invariant-loop-i g l = (k : ℕ) → k < l.i → goal.F-post g l.of k (get_or l.out k l.fn.empty)

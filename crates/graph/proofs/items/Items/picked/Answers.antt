@@ -1,8 +1,8 @@
 -- The next number gives an item, which is pushed; or it gives none.
 use Rattle.std.proofs.Common.{◌++◌, ◌∷◌, [], List, ℕ, length, arith, length-append, sym, ap, ◌∙◌}
-use Rattle.simulate.proofs.Picks.{picks_zero, picks_some, picks_none}
-use Rattle.simulate.proofs.items.Items.picked.Goals.{in-Some, in-None}
-use Rattle.simulate.proofs.items.Items.picked.Goals as goal
+use Rattle.graph.proofs.Picks.{picks_zero, picks_some, picks_none}
+use Rattle.graph.proofs.items.Items.picked.Goals.{in-Some, in-None}
+use Rattle.graph.proofs.items.Items.picked.Goals as goal
 
 pub loop-i-init : goal.loop-i-init
 loop-i-init g c = (omega (arith, ap length c.new-list.ensures), λ item f. c.new-list.ensures ∙ picks_zero item)

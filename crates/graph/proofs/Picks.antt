@@ -5,7 +5,7 @@ use native.Mathlib.Numerals.{add-one}
 use mathlib.Core.Path.{◌≡◌, refl}
 use mathlib.Core.List.{[], ◌∷◌, ◌++◌}
 use Rattle.std.specs.Prelude.{Option, Some, None}
-use Rattle.simulate.specs.inner.Picks.{picks}
+use Rattle.graph.specs.inner.Picks.{picks}
 
 module _ (item : ℕ → Option ℕ) where
   pub picks_zero : [] ≡ picks item 0

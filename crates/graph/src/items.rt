@@ -1,7 +1,7 @@
 // A list in fixed memory, since nothing here may fail for want of it.
-// Private to the crate: who picks says how many numbers there are to pick from, which its room bounds.
+// Required: that there is room, which who pushes or picks knows.
 ghost use Rattle.std.specs.Prelude.{◌≡◌, ◌∷◌, ◌++◌, [], List, Option, ℕ, ◌<◌, ◌≤◌, length, take};
-ghost use Rattle.simulate.specs.inner.Picks.{picks};
+ghost use Rattle.graph.specs.inner.Picks.{picks};
 
 use std::marker::Model;
 
@@ -21,7 +21,7 @@ impl<const N: usize> Model for Items<N> {
 }
 
 impl<const N: usize> Items<N> {
-    fn new() -> Self
+    pub fn new() -> Self
         ensures { result ≡ [] }
     {
         Items {
@@ -30,7 +30,7 @@ impl<const N: usize> Items<N> {
         }
     }
 
-    fn push(&mut self, item: u16)
+    pub fn push(&mut self, item: u16)
         requires { length self.old < N }
         ensures { self.new ≡ self.old ++ item ∷ [] }
     {
