@@ -26,7 +26,9 @@ fn pick(word: u32) -> u8
 
 impl IndexTable {
     // Each word's bit is found once.
-    pub fn new() -> IndexTable {
+    pub fn new() -> IndexTable
+        ensures { Table result.places }
+    {
         let mut places = [0u8; WORDS];
         for (word, place) in places.iter_mut().enumerate() {
             *place = pick(word as u32);

@@ -56,14 +56,14 @@ fn truth_of(kind: Kind, n: u32) -> u16
 }
 
 // The truth words of a row of gates: gate i has `first[i + 1] - first[i]` inputs.
-pub fn put_truths(kind: &[u8], first: &[u16], gates: usize, truth: &mut [u16])
-    requires gates_in_bounds { (gates ≤ length kind.now) × (gates < length first.now) × (gates ≤ length truth.old) }
-    requires by_index { (i : ℕ) → i < gates → (at kind.now i < 11) × (at first.now i ≤ at first.now (suc i)) × (at first.now (suc i) ≤ at first.now i + 8)
+pub fn put_truths(kind: &[u8], first: &[u16], truth: &mut [u16])
+    requires gates_in_bounds { (length kind.now < length first.now) × (length kind.now ≤ length truth.old) }
+    requires by_index { (i : ℕ) → i < length kind.now → (at kind.now i < 11) × (at first.now i ≤ at first.now (suc i)) × (at first.now (suc i) ≤ at first.now i + 8)
         × (at kind.now i ≡ 10 → at first.now (suc i) ≡ at first.now i + 3) }
-    ensures { (i : ℕ) → i < gates → Reckons (at kind.now i) (at first.now (suc i) - at first.now i) (at truth.new i) }
+    ensures { (i : ℕ) → i < length kind.now → Reckons (at kind.now i) (at first.now (suc i) - at first.now i) (at truth.new i) }
 {
-    for i in 0..gates {
-        let gate = Kind::try_from(kind[i]).unwrap();
+    for (i, kind) in kind.iter().enumerate() {
+        let gate = Kind::try_from(*kind).unwrap();
         truth[i] = truth_of(gate, u32::from(first[i + 1] - first[i]));
     }
 }

@@ -3,18 +3,29 @@
 ghost use Rattle.std.specs.Prelude.{◌≡◌, List, map, length, ℕ, suc, ◌*◌, ◌^◌, ◌<◌, ◌≤◌};
 ghost use Rattle.theory.specs.Gate.{gate};
 ghost use Rattle.graph.specs.Columns.{at};
-ghost use Rattle.gates.specs.inner.Gates.{word_from, Reckons, InputRows, evaluated, Evaluable, Truths};
+ghost use Rattle.gates.specs.inner.Gates.{part, word_from, Reckons, InputRows, evaluated, Evaluable, Truths};
 
 use crate::table::IndexTable;
 
 // Gates in columns: `node` lists those that are evaluated, in turn; of node v, `truth[v]` is the truth word, and what it sees is listed from `first[v]` up to
-// `first[v + 1]` in `list`.
+// `first[v + 1]` in `list`; `index` is the table that truth words are read by.
 #[derive(Clone, Copy)]
 pub struct GateList<'a> {
     pub node: &'a [u16],
     pub truth: &'a [u16],
     pub first: &'a [u16],
     pub list: &'a [u16],
+    pub index: &'a IndexTable,
+}
+
+impl<'a> GateList<'a> {
+    // What gate v sees.
+    pub fn sees(self, v: usize) -> &'a [u16]
+        requires { (suc v < length self.first.now) × (at self.first.now v ≤ at self.first.now (suc v)) × (at self.first.now (suc v) ≤ length self.list.now) }
+        ensures { result.now ≡ part self.entry.list.now (at self.entry.first.now v) (at self.entry.first.now (suc v)) }
+    {
+        &self.list[self.first[v] as usize..self.first[v + 1] as usize]
+    }
 }
 
 // The signals that a gate sees in one word behind `seed`, the first one highest.
@@ -39,20 +50,13 @@ pub fn value(truth: u16, index: &IndexTable, sees: &[u16], sig: &[u8]) -> u8
 }
 
 // The gates of the list, in turn: the value of gate v goes to base + v.
-pub fn evaluate(gates: GateList<'_>, index: &IndexTable, base: usize, sig: &mut [u8])
+pub fn evaluate(gates: GateList<'_>, base: usize, sig: &mut [u8])
     requires { Evaluable gates.node.now gates.truth.now gates.first.now gates.list.now (length gates.node.now) base sig.old }
     ensures { (kind : List ℕ) → Truths kind gates.entry.node.now gates.entry.truth.now gates.entry.first.now (length gates.entry.node.now)
         → sig.new ≡ evaluated kind gates.entry.node.now gates.entry.first.now gates.entry.list.now base (length gates.entry.node.now) sig.old }
 {
-    let GateList {
-        node: nodes,
-        truth,
-        first,
-        list,
-    } = gates;
-    for node in nodes {
+    for node in gates.node {
         let v = *node as usize;
-        let sees = &list[first[v] as usize..first[v + 1] as usize];
-        sig[base + v] = value(truth[v], index, sees, sig);
+        sig[base + v] = value(gates.truth[v], gates.index, gates.sees(v), sig);
     }
 }

@@ -7,10 +7,9 @@ ghost use Rattle.graph.specs.Columns.{at};
 ghost use Rattle.lags.specs.inner.Wires.{Ready};
 ghost use Rattle.lags.specs.inner.Climb.{label_of, floor_of, Askable, AskedMark, Takes, Marked, SweepLeaves, Climbs};
 
-use crate::column::column;
 use crate::label::BIAS;
 use crate::query::Query;
-use graph::NODES;
+use graph::{NODES, column};
 use netlist::Netlist;
 use rules::is_pin;
 

@@ -2,7 +2,6 @@
 #![tactic(auto)]
 
 mod climb;
-mod column;
 mod label;
 mod order;
 mod query;
@@ -15,7 +14,7 @@ ghost use Rattle.lags.specs.inner.Lags.{Sure, Leasts};
 ghost use Rattle.lags.specs.inner.Wires.{Grounded};
 
 use climb::Climbed;
-use graph::{EdgesByNode, NODES, edges_by_node};
+use graph::{EdgesByNode, NODES};
 pub use label::{BIAS, lag_of, up_of};
 use netlist::Netlist;
 use order::order_by;
@@ -40,7 +39,7 @@ pub fn ground_of(net: Netlist) -> Ground
 {
     Ground {
         order: order_by(&net, &net.count),
-        ins: edges_by_node(&net.to, net.nodes as usize, net.edges as usize),
+        ins: net.wires().entering(),
         delay: working_delays(&net),
     }
 }

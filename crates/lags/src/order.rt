@@ -8,9 +8,8 @@ ghost use Rattle.graph.specs.inner.Sort.{Ordered};
 ghost use Rattle.lags.specs.inner.Lags.{Sure};
 ghost use Rattle.lags.specs.inner.Rounds.{Low, HeldAt, Held, LabelOrder, Nodes, Parts, Parted};
 
-use crate::column::column;
 use crate::query::Query;
-use graph::{EDGES, NODES, Wires, evaluation_order};
+use graph::{EDGES, NODES, column, evaluation_order};
 use netlist::Netlist;
 
 // 0 for an edge that is empty under the labels of its ends, else 1.
@@ -41,13 +40,7 @@ pub fn order_by(net: &Netlist, count: &[u8; EDGES]) -> [u16; NODES]
     requires no_loop { (kind : List ℕ) → ¬ Loop (column_graph net.now.nodes net.now.edges kind net.now.from net.now.to) (at count.now) }
     ensures { Ordered net.now.nodes net.now.edges net.now.from net.now.to count.now result }
 {
-    let wires = Wires {
-        nodes: net.nodes as usize,
-        edges: net.edges as usize,
-        from: &net.from,
-        to: &net.to,
-    };
-    evaluation_order(wires, count)
+    evaluation_order(net.wires(), count)
 }
 
 // An order under the labels. There is one: the registers of a loop are as many under the labels as they were.

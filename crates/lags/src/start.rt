@@ -5,9 +5,8 @@ ghost use Rattle.graph.specs.Columns.{at};
 ghost use Rattle.lags.specs.inner.Lags.{Sure};
 ghost use Rattle.lags.specs.inner.Starts.{start_of, Far, Shortened, Measured, FirstLabels};
 
-use crate::column::column;
 use crate::label::BIAS;
-use graph::NODES;
+use graph::{NODES, column};
 use netlist::Netlist;
 use rules::is_pin;
 

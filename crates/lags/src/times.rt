@@ -5,9 +5,8 @@ ghost use Rattle.netlist.specs.Net.{working};
 ghost use Rattle.lags.specs.inner.Wires.{Delayed, Ready};
 ghost use Rattle.lags.specs.inner.Rounds.{Low, LabelOrder, Readable, LatestTime, Arrived};
 
-use crate::column::column;
 use crate::query::Query;
-use graph::NODES;
+use graph::{NODES, column};
 use netlist::Netlist;
 
 // "delay times derate, divided by 100, rounded to the nearest whole", "a half to the even neighbour": before an even whole part a half falls short by one hundredth.

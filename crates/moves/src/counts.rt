@@ -6,7 +6,7 @@ ghost use Rattle.moves.specs.inner.Labels.{Labelled, Counts, Wide, Bases};
 ghost use Rattle.moves.specs.inner.Columns.{Filled, none};
 
 use crate::MOST_REGISTERS;
-use graph::EDGES;
+use graph::{EDGES, column};
 use lags::up_of;
 use netlist::Netlist;
 
@@ -18,30 +18,50 @@ fn new_count(count: u8, from: u32, to: u32) -> u32
     u32::from(count) + to - from
 }
 
-// "each edge's new count w + r(v) − r(u)".
-#[tactic(auto, using(crate::proofs::Labels::low_edge, crate::proofs::Labels::from_node, crate::proofs::Labels::to_node))]
-pub fn new_counts(net: Netlist, lab: &[u32]) -> [u32; EDGES]
-    requires { Labelled net lab.now }
-    ensures { Counts net lab.now result }
-{
-    let edges = net.edges as usize;
-    let mut counts = [0u32; EDGES];
-    for e in 0..edges {
-        let u = net.from[e] as usize;
-        let v = net.to[e] as usize;
-        counts[e] = new_count(net.count[e], lab[u], lab[v]);
-    }
-    counts
+// A netlist and the labels of a legal retiming of it.
+#[derive(Clone, Copy)]
+pub struct Move<'a> {
+    pub net: &'a Netlist,
+    pub lab: &'a [u32],
+    pub ghost labelled: { Labelled net.now lab.now },
 }
 
-// The lowest edge with a count above 32.
-pub fn too_wide(counts: &[u32], edges: usize) -> Option<usize>
-    requires { edges ≤ length counts.now }
-    ensures { Wide counts.now edges result }
+impl<'a> Move<'a> {
+    // "each edge's new count w + r(v) − r(u)".
+    #[tactic(auto, using(crate::proofs::Labels::low_edge, crate::proofs::Labels::from_node, crate::proofs::Labels::to_node))]
+    pub fn new_counts(self) -> [u32; EDGES]
+        ensures { Counts self.entry.net.now self.entry.lab.now result }
+    {
+        let net = self.net;
+        let lab = self.lab;
+        column(net.edges as usize, 0, |e| {
+            new_count(net.count[e], lab[net.from[e] as usize], lab[net.to[e] as usize])
+        })
+    }
+
+    // How many values are chosen on the edges before each edge, and at the end on all.
+    #[tactic(auto, using(crate::proofs::Labels::low_edge, crate::proofs::Labels::from_node, crate::proofs::Labels::to_node))]
+    pub fn chosen(self, counts: &[u32]) -> [u32; EDGES + 1]
+        requires { Counts self.net.now self.lab.now counts.now × (self.net.now.edges ≤ length counts.now) }
+        ensures { Bases self.entry.net.now self.entry.lab.now result }
+    {
+        let net = self.net;
+        let mut base = [0u32; EDGES + 1];
+        let mut total = 0;
+        for e in 0..net.edges as usize {
+            let v = net.to[e] as usize;
+            total += chosen_on(counts[e], up_of(self.lab[v]));
+            base[e + 1] = total;
+        }
+        base
+    }
+}
+
+// The lowest edge with a count above 32. `counts` has all edges and no more.
+pub fn too_wide(counts: &[u32]) -> Option<usize>
+    ensures { Wide counts.now (length counts.now) result }
 {
-    counts[..edges]
-        .iter()
-        .position(|count| MOST_REGISTERS < *count)
+    counts.iter().position(|count| MOST_REGISTERS < *count)
 }
 
 // How many values are chosen on an edge: at the clocks below its new count and below the lag of the node that it enters.
@@ -51,31 +71,10 @@ pub fn chosen_on(count: u32, lag: u32) -> u32
     count.min(lag)
 }
 
-// How many values are chosen on the edges before each edge, and at the end on all.
-#[tactic(auto, using(crate::proofs::Labels::low_edge, crate::proofs::Labels::from_node, crate::proofs::Labels::to_node))]
-pub fn chosen(net: Netlist, lab: &[u32], counts: &[u32]) -> [u32; EDGES + 1]
-    requires { Labelled net lab.now × Counts net lab.now counts.now × (net.edges ≤ length counts.now) }
-    ensures { Bases net lab.now result }
+// The new counts as bytes, of all edges and no more.
+pub fn bytes_of(counts: &[u32]) -> [u8; EDGES]
+    requires { (length counts.now ≤ 1024) × ((e : ℕ) → e < length counts.now → at counts.now e ≤ 32) }
+    ensures { Filled (at counts.now) none (length counts.now) result }
 {
-    let edges = net.edges as usize;
-    let mut base = [0u32; EDGES + 1];
-    let mut total = 0;
-    for e in 0..edges {
-        let v = net.to[e] as usize;
-        total += chosen_on(counts[e], up_of(lab[v]));
-        base[e + 1] = total;
-    }
-    base
-}
-
-// The new counts as bytes.
-pub fn bytes_of(counts: &[u32], edges: usize) -> [u8; EDGES]
-    requires { (edges ≤ 1024) × (edges ≤ length counts.now) × ((e : ℕ) → e < edges → at counts.now e ≤ 32) }
-    ensures { Filled (at counts.now) none edges result }
-{
-    let mut bytes = [0u8; EDGES];
-    for e in 0..edges {
-        bytes[e] = counts[e] as u8;
-    }
-    bytes
+    column(counts.len(), 0, |e| counts[e] as u8)
 }

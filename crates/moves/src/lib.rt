@@ -5,7 +5,7 @@ mod bits;
 mod counts;
 
 pub use bits::put_bit;
-pub use counts::{bytes_of, chosen, chosen_on, new_counts, too_wide};
+pub use counts::{Move, bytes_of, chosen_on, too_wide};
 
 // "9 (lowest edge): a new count above 32."
 pub const MOST_REGISTERS: u32 = 32;

@@ -1,7 +1,6 @@
 -- The laws of clocks, from the ground up.
 -- Words that move on; what is joined.
 -- Lists that are picked from the numbers below a bound.
-pub mod Picks
 pub mod Words
 pub mod Lists
 -- One clock by equations; what is said of steps and runs that are not refused.

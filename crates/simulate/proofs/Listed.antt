@@ -21,7 +21,7 @@ use Rattle.theory.specs.Clock.{gather}
 use Rattle.graph.specs.Columns.{at}
 use Rattle.graph.specs.inner.Sort.{group}
 use Rattle.graph.proofs.Sorted.{group_holds, group_item}
-use Rattle.simulate.specs.inner.Picks.{picks}
+use Rattle.graph.specs.inner.Picks.{picks}
 use Rattle.simulate.specs.inner.Lists.{marked, Listed}
 use Rattle.simulate.specs.inner.Signals.{Within}
 

@@ -23,7 +23,7 @@ use Rattle.netlist.specs.declared.Netlist.{Netlist}
 use Rattle.netlist.specs.Theorems.{Fit}
 use Rattle.netlist.proofs.Run.{fit_rows}
 use Rattle.simulate.specs.declared.plan.Plan.{Plan}
-use Rattle.simulate.specs.inner.Picks.{picks}
+use Rattle.graph.specs.inner.Picks.{picks}
 use Rattle.simulate.specs.inner.Plan.{signal, NoInput, Planned}
 use Rattle.simulate.proofs.Seen.{Entering}
 

@@ -1,5 +1,4 @@
 -- Inside: the plan of a netlist and its lists, made once; the parts of one clock; clocks in a row.
-pub mod Picks
 pub mod Plan
 pub mod Lists
 pub mod Signals

@@ -4,7 +4,6 @@
 mod checks;
 mod circuit;
 mod clocks;
-mod items;
 mod plan;
 mod running;
 mod stepping;

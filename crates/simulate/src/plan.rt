@@ -7,9 +7,8 @@ ghost use Rattle.gates.specs.inner.Gates.{evaluated, Evaluable, Truths};
 ghost use Rattle.simulate.specs.inner.Plan.{signal, NoInput, Planned};
 
 use crate::circuit::Circuit;
-use crate::items::Items;
 use gates::{GateList, IndexTable, evaluate, put_truths};
-use graph::{EDGES, NODES, Wires, edges_by_node, evaluation_order};
+use graph::{EDGES, Items, NODES, column, evaluation_order};
 use rules::Kind;
 
 // What the edges show from their registers comes after the values of the nodes.
@@ -38,8 +37,9 @@ impl Plan {
             truth: &self.truth,
             first: &self.first,
             list: &self.sees,
+            index: &self.index,
         };
-        evaluate(gates, &self.index, 0, sig);
+        evaluate(gates, 0, sig);
     }
 }
 
@@ -70,12 +70,10 @@ fn signals_of(circuit: Circuit<'_>, ins: &[u16]) -> [u16; EDGES]
     ensures { (k : ℕ) → k < circuit.entry.net.now.edges → at result k ≡ signal circuit.entry.net.now (at ins.now k) }
 {
     let net = circuit.net;
-    let mut sees = [0u16; EDGES];
-    for k in 0..net.edges as usize {
+    column(net.edges as usize, 0, |k| {
         let e = ins[k];
-        sees[k] = signal_of(net.from[e as usize], net.count[e as usize], e);
-    }
-    sees
+        signal_of(net.from[e as usize], net.count[e as usize], e)
+    })
 }
 
 // The plan of a netlist.
@@ -83,18 +81,11 @@ pub fn plan_of(circuit: Circuit<'_>) -> Plan
     ensures { Planned circuit.entry.net.now result }
 {
     let net = circuit.net;
-    let nodes = net.nodes as usize;
-    let edges = net.edges as usize;
-    let wires = Wires {
-        nodes,
-        edges,
-        from: &net.from,
-        to: &net.to,
-    };
+    let wires = net.wires();
     let order = evaluation_order(wires, &net.count);
-    let ins = edges_by_node(&net.to, nodes, edges);
+    let ins = wires.entering();
     let mut truth = [0u16; NODES];
-    put_truths(&net.kind, &ins.begin, nodes, &mut truth);
+    put_truths(&net.kind[..wires.nodes], &ins.begin, &mut truth);
     Plan {
         node: gates_of(&order, circuit),
         first: ins.begin,

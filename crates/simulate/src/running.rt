@@ -28,15 +28,12 @@ pub fn clocks_of(
     let outputs = lists.outputs.len();
     let mut words = start;
     let mut sig = [0u8; NODES + EDGES];
-    let mut used = 0;
-    let mut given = 0;
-    for _t in 0..clocks {
-        lists.enter(&vectors[used..used + inputs], &words, &mut sig);
+    for t in 0..clocks {
+        let vector = &vectors[t * inputs..(t + 1) * inputs];
+        lists.enter(vector, &words, &mut sig);
         plan.evaluate(&mut sig);
-        lists.leave(&sig, out, given);
+        lists.leave(&sig, out, t * outputs);
         lists.shift(circuit, &sig, &mut words);
-        used += inputs;
-        given += outputs;
     }
     words
 }

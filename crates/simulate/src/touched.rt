@@ -3,8 +3,7 @@ ghost use Rattle.rules.specs.Kinds.{number_of};
 ghost use Rattle.simulate.specs.inner.Lists.{marked, Listed, Touched};
 
 use crate::circuit::Circuit;
-use crate::items::Items;
-use graph::{EDGES, NODES};
+use graph::{EDGES, Items, NODES};
 use rules::Kind;
 
 // The inputs, the outputs and the edges with a register, each in rising order.

@@ -5,4 +5,4 @@ use Rattle.gates.specs.inner.Gates.{Reckons}
 use Rattle.gates.proofs.truths.put_truths.Given as goal
 
 abbrev pub invariant-loop-i : goal.invariant-loop-i
-invariant-loop-i l = (j : ℕ) → j < l.i → Reckons (at l.kind j) (at l.first (suc j) - at l.first j) (at l.truth j)
+invariant-loop-i l = (j : ℕ) → j < l.i → Reckons (at l.fn.kind j) (at l.first (suc j) - at l.first j) (at l.truth j)

@@ -17,7 +17,7 @@ value-requires c =
     let a = c.args in
     let g = a.gates in
     let l = c.loop-node in
-    placed_seen g.truth.now g.first.now g.list.now a.base a.sig.now l.sig (at g.node.now l.node-index) (c.requires.placed l.node-index (omega arith)) (omega arith) l.invariant.0
+    rw (c.sees.ensures, ← add-one) (placed_seen g.truth.now g.first.now g.list.now a.base a.sig.now l.sig (at g.node.now l.node-index) (c.requires.placed l.node-index (omega arith)) (omega arith) l.invariant.0)
 
 pub loop-node-preserved : goal.loop-node-preserved
 loop-node-preserved c =
@@ -30,7 +30,7 @@ loop-node-preserved c =
       λ kind t.
           let e = l.invariant.1 kind t in
           ap₂ (λ s x. set s (a.base + v) x) e
-          (rw add-one at (c.value.ensures.1 (at kind v) (rw (add-one, part_length g.list.now (at g.first.now v) (at g.first.now (suc v)) p.in_list) (t l.node-index (omega arith))))
-          ∙ ap (λ s. gate (at kind v) (map (at s) (part g.list.now (at g.first.now v) (at g.first.now (suc v))))) e)
+          (c.value.ensures.1 (at kind v) (rw (c.sees.ensures, part_length g.list.now (at g.first.now v) (at g.first.now (suc v)) p.in_list) (t l.node-index (omega arith)))
+          ∙ ap₂ (λ s sees. gate (at kind v) (map (at s) sees)) e c.sees.ensures)
           ∙ sym (evaluated_more kind g.node.now g.first.now g.list.now a.base a.sig.now l.node-index),
     )

@@ -6,5 +6,5 @@ use Rattle.gates.proofs.values.evaluate.Given as goal
 abbrev pub invariant-loop-node : goal.invariant-loop-node
 invariant-loop-node l =
     AllBits l.sig
-    × ((kind : List ℕ) → Truths kind l.nodes l.truth l.first (length l.nodes)
-    → l.sig ≡ evaluated kind l.nodes l.first l.list l.base l.node-index l.initial.sig)
+    × ((kind : List ℕ) → Truths kind l.gates.node.now l.gates.truth.now l.gates.first.now (length l.gates.node.now)
+    → l.sig ≡ evaluated kind l.gates.node.now l.gates.first.now l.gates.list.now l.base l.node-index l.initial.sig)

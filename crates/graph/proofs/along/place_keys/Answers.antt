@@ -3,4 +3,4 @@ use Rattle.std.proofs.Common.{rules}
 use Rattle.graph.proofs.along.place_keys.Goals as goal
 
 pub returns : goal.returns
-returns c e h = let k = c.column.ensures e h in search rules
+returns c e h = let k = c.column.ensures.made_of e h in search rules

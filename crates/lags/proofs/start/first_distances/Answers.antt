@@ -6,4 +6,4 @@ use Rattle.lags.proofs.start.first_distances.Goals as goal
 
 pub returns : goal.returns
 unfolding start_of
-returns c v h = let k = c.column.ensures v h in grind (arith, nat_tests)
+returns c v h = let k = c.column.ensures.made_of v h in grind (arith, nat_tests)

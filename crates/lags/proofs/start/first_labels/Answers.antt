@@ -6,5 +6,5 @@ pub returns : goal.returns
 returns c = record {
   far = c.distances-far.result;
   measured = c.distances-far.ensures;
-  labels = λ v h. let k = c.column.ensures v h in omega (arith, c.distances-far.ensures.ways.low v h);
+  labels = λ v h. let k = c.column.ensures.made_of v h in omega (arith, c.distances-far.ensures.ways.low v h);
 }
