@@ -1,5 +1,5 @@
 // A netlist that is known to keep the rules.
-ghost use Rattle.std.specs.Prelude.{◌≤◌};
+ghost use Rattle.std.specs.Prelude.{◌≡◌, ◌≤◌, length};
 ghost use Rattle.simulate.specs.inner.Ran.{Steppable};
 
 use netlist::Netlist;
@@ -10,5 +10,6 @@ pub struct Circuit<'a> {
     pub net: &'a Netlist,
     pub ghost few_nodes: { net.now.nodes ≤ 512 },
     pub ghost few_edges: { net.now.edges ≤ 1024 },
+    pub ghost kind_rows: { length net.now.kind ≡ 512 },
     pub ghost steppable: { Steppable net.now },
 }

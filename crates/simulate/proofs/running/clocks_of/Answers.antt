@@ -1,5 +1,6 @@
 -- The signals of a clock are bits throughout, and its parts together make one clock.
-use Rattle.std.proofs.Common.{◌≡◌, ◌+◌, ◌-◌, ℕ, List, length, take, drop, arith, rules, refl, ap, sym, subst, ◌∙◌, length-take, length-drop}
+use Rattle.std.proofs.Common.{◌≡◌, ◌+◌, ◌*◌, ◌-◌, ℕ, List, length, take, drop, arith, rules, refl, ap, sym, subst, ◌∙◌, length-take, length-drop, add-one}
+use native.Mathlib.Nat.{suc-mul, zero-mul}
 use Rattle.gates.specs.inner.Gates.{AllBits}
 use Rattle.gates.proofs.Row.{evaluated_bits}
 use Rattle.netlist.specs.declared.Netlist.{Netlist}
@@ -18,15 +19,20 @@ counted : {net : Netlist} {l : Lists} → Touched net l → (length l.inputs ≡
 unfolding earlier
 counted t = (ap length t.inputs.items, ap length t.outputs.items)
 
+-- A clock's vector ends where the next one begins.
+next : (t i : ℕ) → (t + 1) * i ≡ t * i + i
+next t i = ap (λ k. k * i) (add-one t) ∙ suc-mul t i
+
 -- The clock's vector, of i bytes.
-vector_is : (used : ℕ) (vectors : List ℕ) {i n : ℕ} → i ≡ n → take (used + i - used) (drop used vectors) ≡ take n (drop used vectors)
-vector_is used vectors {i} {n} e = ap (λ k. take k (drop used vectors)) (let z : used + i - used ≡ n = omega arith in z)
+vector_is : (t : ℕ) (vectors : List ℕ) {i n : ℕ} → i ≡ n → take ((t + 1) * i - t * i) (drop (t * i) vectors) ≡ take n (drop (t * i) vectors)
+vector_is t vectors {i} {n} e = ap (λ k. take k (drop (t * i) vectors)) (let z : (t + 1) * i - t * i ≡ n = omega (arith, next t i) in z)
 
 pub loop-t-init : goal.loop-t-init
-loop-t-init c = running_start _ c.args.circuit.steppable _ _ _ _ c.requires (search rules) _ refl bits_none
+loop-t-init c =
+    rw (zero-mul, zero-mul) (running_start _ c.args.circuit.steppable _ _ _ _ c.requires (search rules) _ refl bits_none)
 
-pub slice_bounds-enter-end : goal.slice_bounds-enter-end
-slice_bounds-enter-end c = omega (arith, (turn_room _ c.args.circuit.steppable _ _ _ _ c.requires c.loop-t-test.true c.loop-t.invariant).0, c.len-inputs.ensures, (counted c.lists_of-lists.ensures).0)
+pub slice_bounds-vector-end : goal.slice_bounds-vector-end
+slice_bounds-vector-end c = omega (arith, (turn_room _ c.args.circuit.steppable _ _ _ _ c.requires c.loop-t-test.true c.loop-t.invariant).0, c.len-inputs.ensures, (counted c.lists_of-lists.ensures).0, next c.loop-t.t c.len-inputs.result)
 
 pub enter-requires-clause-pins : goal.enter-requires-clause-pins
 enter-requires-clause-pins c =
@@ -34,7 +40,7 @@ enter-requires-clause-pins c =
     let r = fit_rows c.args.circuit.net.now c.args.circuit.steppable.fit in
     let room = (turn_room _ c.args.circuit.steppable _ _ _ _ c.requires c.loop-t-test.true inv).0 in
     let many = (counted c.lists_of-lists.ensures).0 in
-    (listed_within c.lists_of-lists.ensures.inputs _ (omega arith), rw (vector_is c.loop-t.used c.args.vectors.now (c.len-inputs.ensures ∙ many)) (omega (arith, length-take (inputs c.args.circuit.net.now) (drop c.loop-t.used c.args.vectors.now), length-drop c.loop-t.used c.args.vectors.now)))
+    (listed_within c.lists_of-lists.ensures.inputs _ (omega arith), rw (vector_is c.loop-t.t c.args.vectors.now (c.len-inputs.ensures ∙ many)) (omega (arith, length-take (inputs c.args.circuit.net.now) (drop (c.loop-t.t * c.len-inputs.result) c.args.vectors.now), length-drop (c.loop-t.t * c.len-inputs.result) c.args.vectors.now)))
 
 pub enter-requires-clause-edges : goal.enter-requires-clause-edges
 enter-requires-clause-edges c =
@@ -47,7 +53,7 @@ evaluate-requires c =
     let rows : Rows c.plan_of-plan.result = record { first = search rules; sees = search rules; truth = search rules } in
     plan_evaluable c.args.circuit.net.now c.plan_of-plan.result c.plan_of-plan.ensures c.args.circuit.steppable rows _ (omega (arith, c.loop-t.invariant.sig_size))
     (begun_bits _ c.args.circuit.steppable _ _ _ _ c.requires c.loop-t-test.true c.loop-t.invariant c.lists_of-lists.result _
-    (c.enter.ensures ∙ ap (λ v. entered c.lists_of-lists.result v c.loop-t.words c.loop-t.sig) (vector_is c.loop-t.used c.args.vectors.now (c.len-inputs.ensures ∙ (counted c.lists_of-lists.ensures).0))))
+    (c.enter.ensures ∙ ap (λ v. entered c.lists_of-lists.result v c.loop-t.words c.loop-t.sig) (vector_is c.loop-t.t c.args.vectors.now (c.len-inputs.ensures ∙ (counted c.lists_of-lists.ensures).0))))
 
 pub leave-requires : goal.leave-requires
 leave-requires c =
@@ -61,7 +67,7 @@ shift-requires c =
     let p = c.plan_of-plan.result in
     let inv = c.loop-t.invariant in
     let bits = begun_bits _ c.args.circuit.steppable _ _ _ _ c.requires c.loop-t-test.true c.loop-t.invariant c.lists_of-lists.result _
-    (c.enter.ensures ∙ ap (λ v. entered c.lists_of-lists.result v c.loop-t.words c.loop-t.sig) (vector_is c.loop-t.used c.args.vectors.now (c.len-inputs.ensures ∙ (counted c.lists_of-lists.ensures).0))) in
+    (c.enter.ensures ∙ ap (λ v. entered c.lists_of-lists.result v c.loop-t.words c.loop-t.sig) (vector_is c.loop-t.t c.args.vectors.now (c.len-inputs.ensures ∙ (counted c.lists_of-lists.ensures).0))) in
     let valued = c.evaluate.ensures net.kind (plan_truths net p c.plan_of-plan.ensures c.args.circuit.steppable) in (
       net_movable _ c.lists_of-lists.result c.lists_of-lists.ensures c.args.circuit.steppable c.loop-t.words _ inv.words_size (omega arith) inv.fits,
       subst AllBits (sym valued) (evaluated_bits net.kind p.node p.first p.sees 0 _ (length p.node) bits),
@@ -73,11 +79,11 @@ loop-t-preserved c =
     let l = c.loop-t in
     let n = counted c.lists_of-lists.ensures in
     running_turn _ c.args.circuit.steppable _ _ _ _ c.requires c.loop-t-test.true l.invariant _ c.plan_of-plan.ensures _ c.lists_of-lists.ensures _ _
-    (ap (λ k. l.used + k) (c.len-inputs.ensures ∙ n.0)) (ap (λ k. l.given + k) (c.len-outputs.ensures ∙ n.1)) _ record {
+    (next l.t c.len-inputs.result ∙ ap (λ k. l.t * c.len-inputs.result + k) (c.len-inputs.ensures ∙ n.0)) (next l.t c.len-outputs.result ∙ ap (λ k. l.t * c.len-outputs.result + k) (c.len-outputs.ensures ∙ n.1)) _ record {
       sig_rows = l.invariant.sig_size;
       words_rows = l.invariant.words_size;
       begun = c.enter.new.sig;
-      begins = c.enter.ensures ∙ ap (λ v. entered c.lists_of-lists.result v l.words l.sig) (vector_is l.used c.args.vectors.now (c.len-inputs.ensures ∙ n.0));
+      begins = c.enter.ensures ∙ ap (λ v. entered c.lists_of-lists.result v l.words l.sig) (vector_is l.t c.args.vectors.now (c.len-inputs.ensures ∙ n.0));
       evaluates = c.evaluate.ensures net.kind (plan_truths net c.plan_of-plan.result c.plan_of-plan.ensures c.args.circuit.steppable);
       puts = c.leave.ensures;
       moves = c.shift.ensures;

@@ -1,5 +1,5 @@
 -- `simulate::running::run` meets its contract: the text is read, then 13, then 12, then one clock per vector.
-use Rattle.std.proofs.Common.{sym, ◌∙◌}
+use Rattle.std.proofs.Common.{sym, ◌∙◌, rules}
 use Rattle.netlist.proofs.Exits.{left_by}
 use Rattle.netlist.proofs.Run.{fit_rows}
 use Rattle.simulate.proofs.Ran.{reads_steppable}
@@ -13,7 +13,7 @@ pub invariant_of-circuit : goal.invariant_of-circuit
 invariant_of-circuit c =
     let ok = reads_steppable c.in_ok-net.ensures in
     let few = fit_rows _ ok.fit in
-    record { few_nodes = few.0; few_edges = few.1; steppable = ok }
+    record { few_nodes = few.0; few_edges = few.1; kind_rows = search rules; steppable = ok }
 
 pub run_fits-requires : goal.run_fits-requires
 run_fits-requires c =

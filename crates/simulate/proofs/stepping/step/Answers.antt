@@ -1,5 +1,5 @@
 -- `simulate::stepping::step` meets its contract: the rules of the record, then 13, then 12, then one clock.
-use Rattle.std.proofs.Common.{arith, sym, ◌∙◌}
+use Rattle.std.proofs.Common.{arith, sym, ◌∙◌, rules}
 use Rattle.netlist.proofs.Exits.{left_by}
 use Rattle.netlist.proofs.Run.{fit_rows}
 use Rattle.simulate.proofs.Ran.{reads_steppable}
@@ -13,7 +13,7 @@ pub invariant_of-circuit : goal.invariant_of-circuit
 invariant_of-circuit c =
     let ok = reads_steppable c.in_ok-same.ensures in
     let few = fit_rows _ ok.fit in
-    record { few_nodes = few.0; few_edges = few.1; steppable = ok }
+    record { few_nodes = few.0; few_edges = few.1; kind_rows = search rules; steppable = ok }
 
 pub step_fits-requires : goal.step_fits-requires
 step_fits-requires c = let few = fit_rows _ (reads_steppable c.in_ok-same.ensures).fit in omega arith
