@@ -18,13 +18,17 @@ pub struct Rule {
     pub high: u8,
 }
 
-// The rule of a kind's number; past the last kind, the last rule.
-fn rule_of(kind: u8) -> Rule
-    ensures { result ≡ rule_of kind }
-{
-    match Kind::try_from(kind) {
-        Ok(kind) => kind.rule(),
-        Err(_) => Kind::Selector.rule(),
+impl Rule {
+    fn allows_ins(self, ins: u16) -> bool
+        ensures { result ≡ within self.fewest self.most ins }
+    {
+        (u16::from(self.fewest)..=u16::from(self.most)).contains(&ins)
+    }
+
+    fn allows_delay(self, delay: u8) -> bool
+        ensures { result ≡ within self.low self.high delay }
+    {
+        (self.low..=self.high).contains(&delay)
     }
 }
 
@@ -40,22 +44,18 @@ pub fn head_fits(period: u16, derate: u8, nodes: u16, edges: u16) -> bool
     ensures { result ≡ head_fits period derate nodes edges }
 {
     1 <= period
-        && 50 <= derate
-        && derate <= 250
-        && 2 <= nodes
-        && nodes <= NODES
-        && 1 <= edges
-        && edges <= EDGES
+        && (50..=250).contains(&derate)
+        && (2..=NODES).contains(&nodes)
+        && (1..=EDGES).contains(&edges)
 }
 
 // Rule 3.
-// Kept: the number as a line has it, known or not: that it is a kind's is what the rule decides.
+// Kept: the number as a line has it, not a `Kind`: that it is a kind's is what the rule decides.
 #[tactic(auto, unfolding(crate::specs::Rules::node_fits))]
 pub fn node_fits(kind: u8, delay: u8) -> bool
     ensures { result ≡ node_fits kind delay }
 {
-    let rule = rule_of(kind);
-    kind <= Kind::Selector as u8 && rule.low <= delay && delay <= rule.high
+    Kind::try_from(kind).is_ok_and(|kind| kind.rule().allows_delay(delay))
 }
 
 // "Bits at or above the count are 0", by leading zeros.
@@ -65,14 +65,7 @@ pub fn bits_fit(word: u32, count: u8) -> bool
     32u32.saturating_sub(u32::from(count)) <= word.leading_zeros()
 }
 
-// A node's gate kind; 0 past the last one.
-fn kind_at(kinds: &[u8], v: u16) -> u8
-    ensures { result ≡ get_or kinds.now v 0 }
-{
-    kinds.get(v as usize).copied().unwrap_or(0)
-}
-
-// Rule 4. `kinds` are the gate kinds of the nodes.
+// Rule 4. `kinds` are the gate kinds of the nodes; a node past the last of them is taken for an input, as specs/Rules takes it.
 // Kept: an edge's numbers and no struct, as in `head_fits`.
 #[tactic(auto, unfolding(crate::specs::Rules::edge_fits))]
 pub fn edge_fits(kinds: &[u8], nodes: u16, u: u16, v: u16, count: u8, start: u32) -> bool
@@ -82,17 +75,21 @@ pub fn edge_fits(kinds: &[u8], nodes: u16, u: u16, v: u16, count: u8, start: u32
         && v < nodes
         && count <= 32
         && bits_fit(start, count)
-        && kind_at(kinds, u) != Kind::Output as u8
-        && kind_at(kinds, v) != Kind::Input as u8
+        && kinds
+            .get(u as usize)
+            .is_none_or(|kind| *kind != Kind::Output as u8)
+        && kinds
+            .get(v as usize)
+            .is_some_and(|kind| *kind != Kind::Input as u8)
 }
 
 // Rule 5: whether a node of this kind may have so many in-edges.
-// Kept: the number as the record has it; `Kind::try_from` at each call would give it back only to be looked up.
+// Kept: the number as the record has it. The contract holds of every number, and specs/Rules gives those past the last kind the last kind's rule.
 pub fn fan_fits(kind: u8, ins: u16) -> bool
     ensures { result ≡ within (rule_of kind).fewest (rule_of kind).most ins }
 {
-    let rule = rule_of(kind);
-    rule.fewest as u16 <= ins && ins <= rule.most as u16
+    let known = Kind::try_from(kind).unwrap_or(Kind::Selector);
+    known.rule().allows_ins(ins)
 }
 
 // Whether a node of this kind is an input or an output.
