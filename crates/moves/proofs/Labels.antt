@@ -1,4 +1,5 @@
 -- Labels and lags; the new counts and the chosen values by labels.
+--   from_node, to_node, to_small, low_edge    an edge's ends are nodes, the label of the one that it enters is small, and so is its number
 --   new_fits, new_is    a new count by the labels of the edge's ends
 --   wide_edge, wide_none    the lowest count above 32 is retiming's
 --   base_none, chosen_is    running sums
@@ -23,6 +24,9 @@ module _ (net : Netlist) (lab : List ℕ) (s : Labelled net lab) (e : ℕ) (h : 
 
   pub to_node : at net.to e < net.nodes
   to_node = (fit_wired net s.fit).dst_in e h
+
+  pub to_small : at lab (at net.to e) < 32768
+  to_small = s.small (at net.to e) to_node
 
   pub low_edge : e < 1024
   low_edge = omega (arith, fit_rows net s.fit)

@@ -28,14 +28,17 @@ pub struct Move<'a> {
 
 impl<'a> Move<'a> {
     // "each edge's new count w + r(v) − r(u)".
-    #[tactic(auto, using(crate::proofs::Labels::low_edge, crate::proofs::Labels::from_node, crate::proofs::Labels::to_node))]
     pub fn new_counts(self) -> [u32; EDGES]
         ensures { Counts self.entry.net.now self.entry.lab.now result }
     {
         let net = self.net;
         let lab = self.lab;
         column(net.edges as usize, 0, |e| {
-            new_count(net.count[e], lab[net.from[e] as usize], lab[net.to[e] as usize])
+            new_count(
+                net.count[e],
+                lab[net.from[e] as usize],
+                lab[net.to[e] as usize],
+            )
         })
     }
 

@@ -1,8 +1,6 @@
--- `moves::counts::bytes_of` meets its contract: the bytes below e are filled, the others are 0.
-use Rattle.std.proofs.Common.{refl}
-use Rattle.graph.specs.Columns.{at}
-use Rattle.moves.proofs.Fills.{filled_zeros}
+-- `moves::counts::bytes_of` meets its contract: the counts, each as a byte, and 0 behind them.
+use Rattle.std.proofs.Common.{rules}
 use Rattle.moves.proofs.counts.bytes_of.Goals as goal
 
-pub loop-e-init : goal.loop-e-init
-loop-e-init c = (refl, filled_zeros (at c.args.counts.now) 1024)
+pub returns : goal.returns
+returns c = record { rows = λ e h. let k = c.column.ensures.made_of e h in search rules; past = λ e h. let k = c.column.ensures.behind e h in search rules }

@@ -1,24 +1,25 @@
--- `moves::counts::new_counts` meets its contract: the new counts below e are filled.
-use Rattle.std.proofs.Common.{arith, ◌∙◌}
-use lib.ListN.{length-set}
-use Rattle.graph.proofs.Fills.{fill_more}
-use Rattle.moves.specs.inner.Labels.{count_at}
-use Rattle.moves.proofs.Labels.{to_node, low_edge, new_fits, new_is}
-use Rattle.moves.proofs.counts.new_counts.Goals as goal
+-- `moves::counts::Move::new_counts` meets its contract: each new count is made of its edge's count and labels.
+use Rattle.std.proofs.Common.{rules}
+use Rattle.moves.proofs.Labels.{from_node, to_node, to_small, low_edge, low_edges, new_fits, new_is}
+use Rattle.moves.proofs.counts.Move.new_counts.Goals as goal
 
-pub new_count-requires : goal.new_count-requires
-new_count-requires c =
-    let a = c.args in
-    let e = c.loop-e.e in
-    let h = c.loop-e-test.true in
-    (new_fits a.net a.lab.now c.requires e h, c.requires.small _ (to_node a.net a.lab.now c.requires e h))
-
-pub loop-e-preserved : goal.loop-e-preserved
-loop-e-preserved c =
-    let a = c.args in
-    let l = c.loop-e in
-    let h = c.loop-e-test.true in
-    let x = c.new_count.result in (
-      length-set l.counts l.e x ∙ l.invariant.0,
-      fill_more (λ k. count_at a.net a.lab.now k) l.counts l.e x (omega (arith, low_edge a.net a.lab.now c.requires l.e h)) (new_is a.net a.lab.now c.requires l.e h x c.new_count.ensures) l.invariant.1,
+pub column-requires : goal.column-requires
+column-requires c =
+    let m = c.args.self in
+    let k = m.labelled in
+    search (
+      rules,
+      low_edge m.net.now m.lab.now k,
+      from_node m.net.now m.lab.now k,
+      to_node m.net.now m.lab.now k,
+      to_small m.net.now m.lab.now k,
+      new_fits m.net.now m.lab.now k,
+      low_edges m.net.now m.lab.now k,
+      k.rows,
     )
+
+pub returns : goal.returns
+returns c e h =
+    let m = c.args.self in
+    let k = c.column.ensures.made_of e h in
+    new_is m.net.now m.lab.now m.labelled e h _ (search rules)
