@@ -10,7 +10,7 @@ ghost use Rattle.quote.specs.inner.Quoted.{QuoteOfNet};
 
 use counts::{largest, total};
 use halving::tightest;
-use moves::{chosen, new_counts};
+use moves::Move;
 use netlist::{Netlist, Refusal};
 
 // The smallest period that is not refused 8, and of the least retiming there the register total, the largest count on an edge and the number of values to choose.
@@ -32,8 +32,12 @@ fn quote_net(net: Netlist) -> Result<Quoted, Refusal>
     let Some(tight) = tightest(net) else {
         return Err(Refusal::Period);
     };
-    let counts = new_counts(net, &tight.lab);
-    let base = chosen(net, &tight.lab, &counts);
+    let by = Move {
+        net: &net,
+        lab: &tight.lab,
+    };
+    let counts = by.new_counts();
+    let base = by.chosen(&counts);
     let moved = &counts[..edges];
     Ok(Quoted {
         period: tight.period as u16,

@@ -17,31 +17,28 @@ use Rattle.retime.proofs.Order.{wide, moved}
 use Rattle.retime.proofs.moved_by.Goals as goal
 
 -- What is known where no count is above 32.
-moving : {net : Netlist} {lab counts : List ℕ} → Steppable net × Sure net × SoundIn net × Labelled net lab → Counts net lab counts → net.edges ≤ length counts → Wide counts net.edges None
+moving : {net : Netlist} {lab counts : List ℕ} → Steppable net × Sure net × SoundIn net → Labelled net lab → Counts net lab counts → net.edges ≤ length counts → Wide counts net.edges None
     → Moving net lab counts
-moving (steppable, sure, sound, labelled) counted rows narrow =
+moving (steppable, sure, sound) labelled counted rows narrow =
     record { steppable = steppable; sure = sure; sound = sound; labelled = labelled; counted = counted; count_rows = rows; narrow = narrow }
-
-pub too_wide-requires : goal.too_wide-requires
-too_wide-requires c = omega (arith, low_edges _ _ c.requires.steppable.3)
 
 pub returns-in-Some : goal.returns-in-Some
 returns-in-Some c =
-    let net = c.args.net in
-    let lab = c.args.lab.now in
+    let net = c.args.least.net.now in
+    let lab = c.args.least.lab.now in
     wide net (lags_of lab) 0 c.requires.least_lags c.in-Some.wide (wide_edge net lab c.new_counts-counts.result c.in-Some.wide c.new_counts-counts.ensures c.in-Some.ensures)
 
 pub chosen-base-requires : goal.chosen-base-requires
-chosen-base-requires c = (c.requires.steppable.3, c.new_counts-counts.ensures, omega (arith, low_edges _ _ c.requires.steppable.3))
+chosen-base-requires c = (c.new_counts-counts.ensures, omega (arith, low_edges _ _ c.args.least.labelled))
 
 pub bounds-base-edges : goal.bounds-base-edges
-bounds-base-edges c = omega (arith, low_edges _ _ c.requires.steppable.3)
+bounds-base-edges c = omega (arith, low_edges _ _ c.args.least.labelled)
 
 pub choose-requires : goal.choose-requires
 choose-requires c = record {
-  moving = moving c.requires.steppable c.new_counts-counts.ensures (omega (arith, low_edges _ _ c.requires.steppable.3)) c.in_default.ensures;
+  moving = moving c.requires.steppable c.args.least.labelled c.new_counts-counts.ensures (omega (arith, low_edges _ _ c.args.least.labelled)) c.in_default.ensures;
   based = c.chosen-base.ensures;
-  base_rows = omega (arith, low_edges _ _ c.requires.steppable.3);
+  base_rows = omega (arith, low_edges _ _ c.args.least.labelled);
   chosen = refl;
   few = omega arith;
 }
@@ -51,14 +48,14 @@ moved-requires c =
     let words = c.in-Some-choose.words in
     let rows : length words ≡ 1024 = search rules in
     let b = c.in-Some-choose.ensures in (
-      moving c.requires.steppable c.new_counts-counts.ensures (omega (arith, low_edges _ _ c.requires.steppable.3)) c.in_default.ensures,
-      words_short _ _ b.number _ (omega (arith, low_edges _ _ c.requires.steppable.3)) b.its_words,
+      moving c.requires.steppable c.args.least.labelled c.new_counts-counts.ensures (omega (arith, low_edges _ _ c.args.least.labelled)) c.in_default.ensures,
+      words_short _ _ b.number _ (omega (arith, low_edges _ _ c.args.least.labelled)) b.its_words,
     )
 
 pub returns : goal.returns
 returns c =
-    let net = c.args.net in
-    let lab = c.args.lab.now in
+    let net = c.args.least.net.now in
+    let lab = c.args.least.lab.now in
     let b = c.in-Some-choose.ensures in
     let all : get_or c.chosen-base.result net.edges 0 ≡ chosen_in (graph_of net) (regs_of net).count (lags_of lab) = c.chosen-base.ensures _ (omega arith) in
     let narrow = wide_none net lab c.new_counts-counts.result c.new_counts-counts.ensures c.in_default.ensures in

@@ -24,12 +24,15 @@ returns-in_default c =
     let room : Room a.out.now a.lags.now a.net = record { text = omega (arith, c.written_len.ensures); table = omega arith } in
     none a.net room (rw (← c.from.ensures) c.in_default.ensures)
 
-pub retime_by-requires-clause-reads : goal.retime_by-requires-clause-reads
-retime_by-requires-clause-reads c =
+pub invariant_of-least : goal.invariant_of-least
+invariant_of-least c =
     let a = c.args in
     let l = rw c.from.ensures at c.in-Some.ensures in
     let rows : length c.in-Some.lab ≡ 512 = search rules in
-    (c.requires, labelled _ a.net c.in-Some.lab c.requires rows l.small l.least, l.least)
+    record { labelled = labelled _ a.net c.in-Some.lab c.requires rows l.small l.least }
+
+pub retime_by-requires-clause-reads : goal.retime_by-requires-clause-reads
+retime_by-requires-clause-reads c = let l = rw c.from.ensures at c.in-Some.ensures in (c.requires, l.least)
 
 pub retime_by-requires-clause-room : goal.retime_by-requires-clause-room
 retime_by-requires-clause-room c = record { text = omega (arith, c.written_len.ensures); table = omega arith }
