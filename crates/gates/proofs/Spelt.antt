@@ -1,6 +1,5 @@
 -- A word built bit by bit, from bit 0 up.
 --   Spelt f k word      bit j of the word is f j below k, and it has no bits at or above k
---   spelt_none          the word 0, no bit yet
 --   spelt_more          one bit further
 use Prim.Native.Nat.{ℕ, suc, ◌+◌, ◌-◌, ◌*◌, ◌^◌, ◌%◌, ◌<◌, ◌≤◌}
 use native.Mathlib.Omega.{arith}
@@ -14,9 +13,6 @@ use Rattle.graph.specs.Columns.{bit}
 pub record Spelt (f : ℕ → ℕ) (k word : ℕ) : Type 0 where
   pub short : word < 2 ^ k
   pub spells : (j : ℕ) → j < k → bit word j ≡ f j
-
-pub spelt_none : (f : ℕ → ℕ) → Spelt f 0 0
-spelt_none f = record { short = omega arith; spells = λ j h. absurd (let z : ⊥ = omega arith in z) }
 
 module _ (f : ℕ → ℕ) (k word x : ℕ) (s : Spelt f k word) (e : x ≡ f k) (l : x ≤ 1) where
   put_more : (j : ℕ) → j < suc k → bit (word + x * 2 ^ k) j ≡ f j

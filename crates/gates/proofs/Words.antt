@@ -1,7 +1,7 @@
 -- Bits gathered in a word.
---   part_none, part_more, part_length, part_at    a part of a list: of no place, the first place apart, how long, what stands there
+--   part_none, part_length, part_at    a part of a list: of no place, how long, what stands there
 --   bits_map            what a part of a list of bits shows is bits
---   word_none, word_more, word_wider    how large the gathered word is: of no bit, with one bit more, at the end
+--   word_more, word_wider    how large the gathered word is: with one bit more, at the end
 --   word_below          so large at most
 --   seed_narrow         the seed of a truth word that has nothing below its seed
 --   ones_few            a sum of bits is no more than how many there are
@@ -26,11 +26,6 @@ module _ (list : List ℕ) where
   pub part_none : (hi : ℕ) → part list hi hi ≡ []
   part_none hi = ap (λ n. take n (drop hi list)) (let z : hi - hi ≡ 0 = omega arith in z)
 
-  pub part_more : (lo hi : ℕ) → lo < hi → hi ≤ length list → part list lo hi ≡ at list lo ∷ part list (lo + 1) hi
-  part_more lo hi h l =
-      ap₂ take (let z : hi - lo ≡ suc (hi - (lo + 1)) = omega arith in z)
-      (drop-cons list lo 0 (omega arith) ∙ ap (λ n. at list lo ∷ drop n list) (sym (add-one lo)))
-
   pub part_length : (lo hi : ℕ) → hi ≤ length list → length (part list lo hi) ≡ hi - lo
   part_length lo hi h = simp (length-take, length-drop) (omega arith)
 
@@ -43,9 +38,6 @@ bits_map f (x ∷ l) h zero = h 0 (omega arith)
 bits_map f (x ∷ l) h (suc i) = bits_map f l (λ j k. h (suc j) (omega arith)) i
 
 -- ── The gathered word ───────────────────────────────────────────────────────────────────────
-
-pub word_none : (seed lo : ℕ) → seed < suc seed * 2 ^ (lo - lo)
-word_none seed lo = subst (λ n. seed < suc seed * 2 ^ n) (let z : 0 ≡ lo - lo = omega arith in z) (omega arith)
 
 pub word_more : (seed word x n : ℕ) → word < suc seed * 2 ^ n → x ≤ 1 → word * 2 + x < suc seed * 2 ^ suc n
 word_more seed word x n h l = rw (pow-suc 2 n, ← mul_assoc (suc seed) (2 ^ n) 2) (omega arith)

@@ -1,7 +1,7 @@
 -- Start values as a word: over the count, whatever it is.
 --   word_fits           a word of so many bits has no bit at or above them
 --   word_bit            bit k of the word is start value k
---   put_short, put_fits    a word of so many bits with one more: how large it is; it fits a machine word
+--   put_short           how large a word of so many bits with one more is
 --   words_short         the words of a choice have no bit past the chosen values
 use Prim.Native.Nat.{ℕ, zero, suc, ◌+◌, ◌*◌, ◌^◌, ◌-◌, ◌<◌, ◌≤◌}
 use native.Mathlib.Omega.{arith}
@@ -45,9 +45,6 @@ module _ (start : ℕ → ℕ) where
 module _ (word t x : ℕ) (l : word < 2 ^ t) (b : x ≤ 1) where
   pub put_short : word + x * 2 ^ t < 2 ^ (t + 1)
   put_short = rw (add-one t) (bit_fits word x t l b)
-
-  pub put_fits : t < 32 → word + x * 2 ^ t < 2 ^ 32
-  put_fits h = lt_of_lt_of_le put_short (pow_mono {j = 32} (omega arith))
 
 pub words_short : (net : Netlist) (r : ℕ → ℤ) (c : ℕ) (words : List ℕ) → net.edges ≤ length words → EdgeWords net r c words → ShortWords net r words
 words_short net r c words l w = record {

@@ -1,7 +1,7 @@
 -- Reading a line, in each way that it can go: no line there; a line whose numbers break its rule; a line that fills a row.
 --   Opened, opened, closed         a line decoded by code: its bytes, its numbers and where it ends; or that there is none
 --   head_.., node_.., edge_..      what the lines from there on come to, in each of the three ways
---   ends_surplus, ends_none        what stands behind the last line
+--   ends_surplus        what stands behind the last line
 use Prim.Native.Nat.{ℕ, suc, ◌+◌, ◌≤◌, ◌<◌}
 use mathlib.Core.Path.{◌≡◌, refl, ap, ap₂, sym, ◌∙◌}
 use mathlib.Core.Bool.{true, false}
@@ -118,6 +118,3 @@ module _ (t : List ℕ) (at m e b : ℕ) (net : Netlist) where
 module _ (t : List ℕ) (at n : ℕ) (net : Netlist) where
   pub ends_surplus : at < length t → nothing_more (drop at t) n net ≡ fault (at_line 1 n)
   ends_surplus h = rw (drop-cons t at 0 h)
-
-  pub ends_none : length t ≤ at → nothing_more (drop at t) n net ≡ lines net
-  ends_none h = rw (drop_of_length-le t h)

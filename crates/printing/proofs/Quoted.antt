@@ -1,5 +1,4 @@
 -- What is printed of a quote.
---   quote_length        its line has 31 bytes
 --   prints_quote        what is printed, from how it was put
 use Prim.Native.Nat.{ℕ}
 use mathlib.Core.Path.{◌≡◌}
@@ -11,10 +10,6 @@ use Rattle.netlist.specs.Answer.{Said}
 use Rattle.quote.specs.Quote.{Quotes}
 use Rattle.printing.specs.Shown.{line_in}
 use Rattle.printing.specs.Quoted.{quote_line, shown_quote, PrintsQuote}
-
-pub quote_length : (p a b c : ℕ) → length (quote_line p a b c) ≡ 31
-unfolding bytes_of
-quote_length p a b c = length_line _
 
 pub prints_quote : (t old new : List ℕ) (r : ℕ) (said : Said) {a b c : ℕ} → Quotes t said a b c → new ≡ placed old 0 (shown_quote said a b c)
     → r ≡ line_in (shown_quote said a b c) old → PrintsQuote t old r new

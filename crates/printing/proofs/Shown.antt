@@ -1,7 +1,6 @@
 -- What is printed of a refusal, and of a text read and written again.
 --   refusal_line_is, refusal_length  the bytes of a refusal's line; it has 11
 --   rereads_text, rereads_refusal   what is printed in the two cases
---   line_fits           what is printed is in the buffer
 --   counted             so many bytes as a buffer has can be taken from its front
 use Prim.Native.Nat.{ℕ, ◌+◌, ◌/◌, ◌%◌, ◌≤◌}
 use mathlib.Core.Path.{◌≡◌, refl, ap, sym, ◌∙◌}
@@ -23,13 +22,6 @@ use Rattle.printing.specs.Shown.{refusal_line, line_in, Rereads}
 
 pub counted : (n : ℕ) (xs : List ℕ) → n ≤ length xs → IsPrefixLen n xs
 counted n xs room = (room, sym (length-take-le n xs room))
-
-pub line_fits : (line old : List ℕ) → line_in line old ≤ length old
-line_fits line old = go (leb (length line) (length old)) refl
-  where
-    go : (b : Bool) → leb (length line) (length old) ≡ b → cond b (length line) 0 ≤ length old
-    go true e = leb-true (length line) (length old) e
-    go false e = omega arith
 
 -- ── A refusal ───────────────────────────────────────────────────────────────────────────────
 

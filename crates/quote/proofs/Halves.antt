@@ -1,8 +1,7 @@
 -- The search for the smallest period, by halving.
 --   Halving             no period up to low is met, and the labels are those of the least retiming at high
 --   halving_start       it begins where 65,535 is met
---   halving_met, halving_missed    a period between them takes the place of one
---   halving_end         where none is between them, high is the smallest that is met
+--   halving_missed      a period between them that is not met takes the place of the lower
 use Prim.Native.Nat.{ℕ, ◌+◌, ◌<◌, ◌≤◌}
 use native.Mathlib.Omega.{arith}
 use mathlib.Core.Path.{◌≡◌}
@@ -32,8 +31,6 @@ module _ (net : Netlist) where
 
   module _ {low high : ℕ} {lab : List ℕ} (h : Halving net low high lab) where
     module _ {middle : ℕ} (above : low < middle) (below : middle < high) where
-      pub halving_met : {tried : List ℕ} → Least net middle tried → length tried ≡ 512 → Halving net low middle tried
-      halving_met l rows = record { apart = above; period = omega (arith, h.period); missed = h.missed; met = l.least; small = l.small; rows = rows }
 
       pub halving_missed : NoneMeetsIn net middle → Halving net middle high lab
       halving_missed n = record {
@@ -44,10 +41,3 @@ module _ (net : Netlist) where
         small = h.small;
         rows = h.rows;
       }
-
-    pub halving_end : ¬ (low + 1 < high) → Sure net → Tightest net high lab
-    halving_end e sure = record {
-      smallest = record { low = omega (arith, h.apart); high = h.period; smaller = λ q a b. h.missed q a (omega arith) };
-      least = h.met;
-      labelled = record { fit = sure.fit; rows = omega (arith, (fit_rows net sure.fit).0, h.rows); small = h.small; legal = h.met.feasible.legal };
-    }

@@ -1,5 +1,5 @@
 -- The largest of some numbers.
---   most_none, most_more    of none, and of one more
+--   most_more           of one more
 --   most_same           it depends on the numbers
 --   most_holds          none of them is above it
 --   most_within         it is not above what none of them is above
@@ -13,10 +13,6 @@ use mathlib.Core.Path.{◌≡◌, refl, ap, ap₂}
 use mathlib.Core.Logic.{⊎_elim}
 use Rattle.theory.proofs.numbers.Find.{first}
 use Rattle.quote.specs.Quote.{most}
-
-pub most_none : (f : ℕ → ℕ) → 0 ≡ most f 0
-unfolding most
-most_none f = refl
 
 pub most_more : (f : ℕ → ℕ) (n : ℕ) → most f (n + 1) ≡ max (most f n) (f n)
 unfolding most

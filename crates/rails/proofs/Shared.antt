@@ -1,5 +1,5 @@
 -- What the edges below a number share with an edge: its nearest registers.
---   far_none, far_more  none yet; one register more that agrees
+--   far_more            one register more that agrees
 --   far_ends            it ends at the last register of one, or at the first that differs
 --   shares_by, shares-other, shares_some    an edge from the same node with a register there shares it where both agree; no other edge does
 --   shared_by, shared_some       some edge below n shares it
@@ -26,8 +26,6 @@ use Rattle.rails.proofs.Sums.{sum_ones, sum_all, sum_past}
 -- ── Further ─────────────────────────────────────────────────────────────────────────────────
 
 module _ {f : ℕ → ℕ} {w : ℕ} {g : ℕ → ℕ} {x m : ℕ} where
-  pub far_none : m ≤ w → Far f w g x m m
-  far_none h = record { low = omega arith; within = h; agree = λ d a b. absurd (let z : ⊥ = omega arith in z) }
 
   pub far_more : {n : ℕ} → Far f w g x m n → n < w → n < x → agreed f g (n + 1) ≡ true → Far f w g x m (n + 1)
   far_more {n} s h k e = record {

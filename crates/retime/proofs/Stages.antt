@@ -1,6 +1,6 @@
 -- From what a stage of the call found to what it promises.
 --   by_refused, new_rows, by_done  `retime_by`: 9, 10, 11; the new netlist has as many rows; both are put, as there is room
---   own_text, labelled             `retime_net`: a text that reads is the netlist's own; the labels are those of a legal retiming
+--   labelled                       `retime_net`: the labels are those of a legal retiming
 --   Promised, promised, stop, goes_on    `retime`
 use Prim.Native.Nat.{ℕ, ◌+◌, ◌≤◌, ◌<◌}
 use native.Mathlib.Omega.{arith}
@@ -59,9 +59,6 @@ module _ (net : Netlist) (lab : List ℕ) (out : List ℕ) (lags : List ℤ) whe
               ∙ ap (λ n. holds (value 0) (text_of n) out) m.moved;
           table = p ∙ ap (λ n. holds (value 0) (joined (λ v. lags_of lab v ∷ []) n) lags) new_rows.0;
         }
-
-pub own_text : (t : List ℕ) (net : Netlist) → Reads t (value 0) net → t ≡ text_of net
-own_text t net h = reads_text h
 
 pub labelled : (t : List ℕ) (net : Netlist) (lab : List ℕ) → Reads t (value 0) net → length lab ≡ 512 → ((v : ℕ) → v < net.nodes → at lab v < 32768) → LeastLags net (lags_of lab) → Labelled net lab
 labelled t net lab h rows small l =
