@@ -1,4 +1,6 @@
 // Values from signals. What a gate sees is listed as places in `sig`, where 0 or 1 stands.
+// Kept: signals are bytes and no bools, since vectors and outputs are bytes; and that they are in place for a list of gates (`InputRows`, `Evaluable`, `AllBits`) is asked
+// at each call and stands in no type, since it is said of two things together, of which the signals are lent for writing.
 // Required: signals in place for each gate, and its truth word; the plan of a netlist and the program of a search have them.
 ghost use Rattle.std.specs.Prelude.{◌≡◌, List, map, length, ℕ, suc, ◌*◌, ◌^◌, ◌<◌, ◌≤◌};
 ghost use Rattle.theory.specs.Gate.{gate};

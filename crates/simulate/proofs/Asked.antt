@@ -23,7 +23,7 @@ use Rattle.netlist.specs.declared.Netlist.{Netlist}
 use Rattle.netlist.specs.Net.{regs_of}
 use Rattle.simulate.specs.Clock.{earlier}
 use Rattle.simulate.specs.Step.{only_bits, words_fit}
-use Rattle.simulate.proofs.Lists.{before_hit, before_miss}
+use Rattle.simulate.proofs.Bits.{before_hit, before_miss}
 
 neither : (b : Bool) → cond b false false ≡ false
 neither true = refl

@@ -43,7 +43,7 @@ use Rattle.netlist.proofs.Fits.{both, edge_fits_means}
 use Rattle.simulate.specs.Clock.{earlier, inputs, outputs, input_byte, values, output_values, shifted, word_after, words_after}
 use Rattle.simulate.specs.Step.{only_bits, words_fit}
 use Rattle.simulate.specs.Run.{clocks_from}
-use Rattle.simulate.proofs.Lists.{rows_past, bits_at}
+use Rattle.simulate.proofs.Bits.{rows_past, bits_at}
 use Rattle.simulate.proofs.Words.{moved_fits}
 
 -- ── What an edge shows ──────────────────────────────────────────────────────────────────────

@@ -2,7 +2,7 @@
 -- Words that move on; what is joined.
 -- Lists that are picked from the numbers below a bound.
 pub mod Words
-pub mod Lists
+pub mod Bits
 -- One clock by equations; what is said of steps and runs that are not refused.
 pub mod Clock
 pub mod Says

@@ -29,7 +29,7 @@ use Rattle.netlist.proofs.Rows.{zeros_at}
 use Rattle.netlist.proofs.Run.{fit_rows, fit_wired}
 use Rattle.netlist.proofs.theorems.Refusals.{judged_zero}
 use Rattle.netlist.proofs.theorems.Sound.{reads_value, reads_keeps}
-use Rattle.simulate.specs.declared.touched.Lists.{Lists}
+use Rattle.simulate.specs.declared.lists.Lists.{Lists}
 use Rattle.simulate.specs.declared.plan.Plan.{Plan}
 use Rattle.simulate.specs.Clock.{inputs, outputs, values, output_values, shifted, words_after}
 use Rattle.simulate.specs.Step.{only_bits}
@@ -38,7 +38,7 @@ use Rattle.simulate.specs.inner.Plan.{Planned}
 use Rattle.simulate.specs.inner.Lists.{Touched}
 use Rattle.simulate.specs.inner.Signals.{with_inputs, with_outputs, with_shifts}
 use Rattle.simulate.specs.inner.Ran.{Steppable, Runnable, words_from, Ran}
-use Rattle.simulate.proofs.Lists.{bits_at, bits_take, bits_drop}
+use Rattle.simulate.proofs.Bits.{bits_at, bits_take, bits_drop}
 use Rattle.simulate.proofs.Clock.{Fits, fit_words, after_in, after_out, after_length, fits_after, value_input, output_length}
 use Rattle.simulate.proofs.Written.{written_length}
 use Rattle.simulate.proofs.Signals.{entered, entered_at, shown_at, shown_stays, entered_length, entered_bits, outputs_put, shifts_in, shifts_out, shifts_length}

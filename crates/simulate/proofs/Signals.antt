@@ -22,7 +22,7 @@ use Rattle.netlist.specs.declared.Netlist.{Netlist}
 use Rattle.netlist.specs.Net.{graph_of}
 use Rattle.netlist.proofs.Fits.{edge_fits_means}
 use Rattle.netlist.proofs.Run.{fit_rows, fit_wired}
-use Rattle.simulate.specs.declared.touched.Lists.{Lists}
+use Rattle.simulate.specs.declared.lists.Lists.{Lists}
 use Rattle.simulate.specs.Clock.{earlier}
 use Rattle.simulate.specs.inner.Lists.{Touched}
 use Rattle.simulate.specs.inner.Signals.{with_inputs, with_registers, with_outputs, shifted_at, with_shifts, Movable}

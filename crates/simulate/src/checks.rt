@@ -10,6 +10,7 @@ use crate::circuit::Circuit;
 use rules::{Kind, bits_fit};
 
 // How many nodes have this gate kind.
+// Kept: its number is compared, as in src/plan.rt.
 pub fn count_kind(circuit: Circuit<'_>, kind: Kind) -> usize
     ensures { result ≡ earlier circuit.entry.net.now (number_of kind) circuit.entry.net.now.nodes }
 {

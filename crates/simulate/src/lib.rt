@@ -4,6 +4,7 @@
 mod checks;
 mod circuit;
 mod clocks;
+mod lists;
 mod plan;
 mod running;
 mod stepping;

@@ -44,6 +44,7 @@ impl Plan {
 }
 
 // The nodes of an order that are no inputs, in the same order.
+// Kept: a kind is compared by its number, as the record that C lends has it: to make a `Kind` of it is a test more, which a netlist that reads does not need.
 fn gates_of(order: &[u16], circuit: Circuit<'_>) -> Items<NODES>
     requires nodes_in_bounds { circuit.net.now.nodes ≤ length order.now }
     requires by_index { (p : ℕ) → p < circuit.net.now.nodes → at order.now p < circuit.net.now.nodes }

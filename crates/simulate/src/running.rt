@@ -30,9 +30,10 @@ pub fn clocks_of(
     let mut sig = [0u8; NODES + EDGES];
     for t in 0..clocks {
         let vector = &vectors[t * inputs..(t + 1) * inputs];
-        lists.enter(vector, &words, &mut sig);
+        lists.put_inputs(vector, &mut sig);
+        lists.show_registers(&words, &mut sig);
         plan.evaluate(&mut sig);
-        lists.leave(&sig, out, t * outputs);
+        lists.put_outputs(&sig, out, t * outputs);
         lists.shift(circuit, &sig, &mut words);
     }
     words

@@ -3,18 +3,12 @@ ghost use Rattle.rules.specs.Kinds.{number_of};
 ghost use Rattle.simulate.specs.inner.Lists.{marked, Listed, Touched};
 
 use crate::circuit::Circuit;
+use crate::lists::Lists;
 use graph::{EDGES, Items, NODES};
 use rules::Kind;
 
-// The inputs, the outputs and the edges with a register, each in rising order.
-#[derive(Drop)]
-pub struct Lists {
-    pub inputs: Items<NODES>,
-    pub outputs: Items<NODES>,
-    pub registers: Items<EDGES>,
-}
-
 // The nodes of this gate kind.
+// Kept: its number is compared, as in src/plan.rt.
 fn list_kind(circuit: Circuit<'_>, kind: Kind) -> Items<NODES>
     ensures { Listed circuit.entry.net.now.kind (number_of kind) circuit.entry.net.now.nodes result }
 {

@@ -11,7 +11,7 @@ use Rattle.netlist.proofs.Fits.{both, within_true}
 use Rattle.netlist.proofs.Run.{fit_wired}
 use Rattle.netlist.proofs.theorems.Sound.{reads_keeps}
 use Rattle.simulate.specs.Theorems.{HasPins}
-use Rattle.simulate.proofs.Lists.{before_less}
+use Rattle.simulate.proofs.Bits.{before_less}
 
 -- "N 2 to 512"
 head_nodes : (p d n e : ℕ) → head_fits p d n e ≡ true → 0 < n

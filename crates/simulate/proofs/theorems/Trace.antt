@@ -33,7 +33,7 @@ use Rattle.simulate.specs.Step.{only_bits}
 use Rattle.simulate.specs.Run.{clocks_from}
 use Rattle.simulate.specs.Theorems.{TraceExists, TraceUnique, byte_at, RunIsTrace}
 use Rattle.simulate.proofs.Words.{moved_low, moved_top}
-use Rattle.simulate.proofs.Lists.{before_less, joined_first, bits_take, bits_drop}
+use Rattle.simulate.proofs.Bits.{before_less, joined_first, bits_take, bits_drop}
 use Rattle.simulate.proofs.Clock.{bits_of, Fits, start_fits, after_in, value_input, value_gate, value_bit, fits_after}
 
 -- What reads is sound, and a sound circuit has a trace, and one only.

@@ -5,7 +5,7 @@
 use Rattle.std.specs.Prelude.{◌≡◌, List, map, ℕ, min}
 use Rattle.graph.specs.inner.Sort.{group}
 use Rattle.netlist.specs.declared.Netlist.{Netlist}
-use Rattle.simulate.specs.declared.touched.Lists.{Lists}
+use Rattle.simulate.specs.declared.lists.Lists.{Lists}
 
 abbrev pub marked : List ℕ → List ℕ
 marked count = map (λ w. min 1 w) count
