@@ -35,24 +35,6 @@ fn further(a: u32, w: u32, b: u32, x: u32, m: u32) -> u32
     w
 }
 
-// How many registers of the edge e are paid for: those that no lower edge shares.
-#[tactic(auto, using(crate::proofs::Few::few_edges))]
-fn paid(net: &Netlist, e: usize) -> u32
-    requires { Fit net.now × (e < net.now.edges) }
-    ensures { (result ≡ paid_on (graph_of net.now) (regs_of net.now) e) × (result ≤ 32) }
-{
-    let from = net.from[e];
-    let count = u32::from(net.count[e]);
-    let start = net.start[e];
-    let mut shared = 0;
-    for i in 0..e {
-        if net.from[i] == from {
-            shared = further(start, count, net.start[i], u32::from(net.count[i]), shared);
-        }
-    }
-    count - shared
-}
-
 // The total, and each node's count.
 // Kept: no heap, so the counts are a column of fixed size.
 #[derive(Clone, Copy)]
@@ -61,20 +43,48 @@ struct Bill {
     rails: [u32; NODES],
 }
 
-// Each edge's registers that are paid for, at the node that it leaves.
-#[tactic(auto, using(crate::proofs::Few::few_edges))]
-fn count_all(net: &Netlist) -> Bill
-    requires { Fit net.now }
-    ensures { Counted net.now net.now.edges result.total result.rails }
-{
-    let mut rails = [0; NODES];
-    let mut total = 0;
-    for e in 0..usize::from(net.edges) {
-        let n = paid(net, e);
-        rails[usize::from(net.from[e])] += n;
-        total += n;
+// What a chip is made from: a netlist whose lines are right.
+#[derive(Clone, Copy)]
+struct Chip<'a> {
+    net: &'a Netlist,
+    ghost fit: { Fit net.now },
+}
+
+impl<'a> Chip<'a> {
+    // How many registers of the edge e are paid for: those that no lower edge shares.
+    #[tactic(auto, using(crate::proofs::Few::few_edges))]
+    fn paid(self, e: usize) -> u32
+        requires { e < self.net.now.edges }
+        ensures { (result ≡ paid_on (graph_of self.entry.net.now) (regs_of self.entry.net.now) e) × (result ≤ 32) }
+    {
+        let net = self.net;
+        let from = net.from[e];
+        let count = u32::from(net.count[e]);
+        let start = net.start[e];
+        let mut shared = 0;
+        for i in 0..e {
+            if net.from[i] == from {
+                shared = further(start, count, net.start[i], u32::from(net.count[i]), shared);
+            }
+        }
+        count - shared
     }
-    Bill { total, rails }
+
+    // Each edge's registers that are paid for, at the node that it leaves.
+    #[tactic(auto, using(crate::proofs::Few::few_edges))]
+    fn bill(self) -> Bill
+        ensures { Counted self.entry.net.now self.entry.net.now.edges result.total result.rails }
+    {
+        let net = self.net;
+        let mut rails = [0; NODES];
+        let mut total = 0;
+        for e in 0..usize::from(net.edges) {
+            let n = self.paid(e);
+            rails[usize::from(net.from[e])] += n;
+            total += n;
+        }
+        Bill { total, rails }
+    }
 }
 
 // Each node's count of shared registers into the table, in node order; the answer is the total, or a refusal (reading's, 12), which leaves the table.
@@ -86,7 +96,7 @@ pub fn rails(text: &[u8], table: &mut [u32]) -> Result<usize, Refusal>
     if table.len() < nodes {
         return Err(Refusal::Room);
     }
-    let bill = count_all(&net);
+    let bill = Chip { net: &net }.bill();
     table[..nodes].copy_from_slice(&bill.rails[..nodes]);
     Ok(bill.total as usize)
 }

@@ -11,8 +11,8 @@ returns-in_err-net c = rw (left_by c.from_residual.ensures) (rails_stop _ _ _ c.
 pub returns-then-table-nodes : goal.returns-then-table-nodes
 returns-then-table-nodes c = rails_short _ _ _ c.in_ok-net.ensures (omega arith)
 
-pub count_all-bill-requires : goal.count_all-bill-requires
-count_all-bill-requires c = reads_fit c.in_ok-net.ensures
+pub invariant_of-bill : goal.invariant_of-bill
+invariant_of-bill c = record { fit = reads_fit c.in_ok-net.ensures }
 
 pub shared_ref_as_front-copy_from_slice : goal.shared_ref_as_front-copy_from_slice
 shared_ref_as_front-copy_from_slice c = omega (arith, (fit_rows _ (reads_fit c.in_ok-net.ensures)).0)
@@ -20,6 +20,6 @@ shared_ref_as_front-copy_from_slice c = omega (arith, (fit_rows _ (reads_fit c.i
 pub returns : goal.returns
 returns c =
     let few = (fit_rows _ (reads_fit c.in_ok-net.ensures)).0 in
-    let wide : length c.count_all-bill.result.rails ≡ 512 = search rules in
-    rails_done _ _ _ c.in_ok-net.ensures (omega arith) c.count_all-bill.ensures (omega (arith, few, wide))
+    let wide : length c.bill-bill.result.rails ≡ 512 = search rules in
+    rails_done _ _ _ c.in_ok-net.ensures (omega arith) c.bill-bill.ensures (omega (arith, few, wide))
     (rw (← c.from-nodes.ensures) (ap (λ l. l ++ drop c.from-nodes.result c.args.table.now) c.copy_from_slice.ensures.after))
