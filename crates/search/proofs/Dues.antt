@@ -2,8 +2,9 @@
 --   part_join           two parts that meet
 --   level_none, level_hit, level_miss, level_append     the dues of one level, by the parts of a list
 --   level_few           are no more than the list has
+--   next_hit, next_miss, level_front     with one due more, of the level or of another; those of a front are no more than all
 --   ranked              the dues of the levels below m among the first n: first those of level 0, then those of level 1, …
---   ranked_more         one level more
+--   ranked_none, ranked_more     no level, and one more
 --   ranked_room         there are never more than n
 --   Ranked              what is at one of its places: a due of a level below m
 --   ranked_place        each place holds one
@@ -14,10 +15,12 @@
 use Prim.Native.Nat.{ℕ, zero, suc, ◌+◌, ◌-◌, ◌/◌, ◌≤◌, ◌<◌}
 use native.Mathlib.Omega.{arith}
 use native.Mathlib.Decide.{ℕ_discrete}
-use mathlib.Core.Path.{◌≡◌, refl, sym, ap, ap₂, ◌∙◌}
+use native.Mathlib.Numerals.{add-one}
+use mathlib.Core.Path.{◌≡◌, refl, sym, ap, ◌∙◌}
 use mathlib.Core.List.{List, [], ◌∷◌, ◌++◌, map, map-append, append-nil}
 use borrow.Author.Tests.{eq-eqb, ne_eqb}
-use lib.ListN.{length, take, drop, length-map, get_or-append}
+use lib.ListN.{length, take, drop, length-map, length-append, get_or-append}
+use Rattle.std.proofs.lemmas.List.{take-append-drop}
 use lib.Seq.{take-suc, take-add, drop-drop}
 use Rattle.theory.specs.Clock.{gather}
 use Rattle.graph.specs.Columns.{at}
@@ -73,6 +76,20 @@ module _ (level : List ℕ) (m : ℕ) where
       go h (yes q) = omega (arith, ap length (level_hit y l q))
       go h (no q) = omega (arith, ap length (level_miss y l q))
 
+  -- With one due more of a list, and with all of them.
+  module _ (due : List ℕ) (i : ℕ) where
+    next : i < length due → of_level level m (take (i + 1) due) ≡ of_level level m (take i due) ++ of_level level m (at due i ∷ [])
+    next h = rw add-one (ap (of_level level m) (take-suc due i 0 h) ∙ level_append (take i due) (at due i ∷ []))
+
+    pub next_hit : i < length due → at level (at due i / 2) ≡ m → of_level level m (take (i + 1) due) ≡ of_level level m (take i due) ++ at due i ∷ []
+    next_hit h q = next h ∙ ap (λ l. of_level level m (take i due) ++ l) (level_one (at due i) q)
+
+    pub next_miss : i < length due → ¬ (at level (at due i / 2) ≡ m) → of_level level m (take (i + 1) due) ≡ of_level level m (take i due)
+    next_miss h q = next h ∙ ap (λ l. of_level level m (take i due) ++ l) (level_other (at due i) q) ∙ append-nil _
+
+    pub level_front : length (of_level level m (take i due)) ≤ length (of_level level m due)
+    level_front = omega (arith, simp length-append at (ap length (ap (of_level level m) (sym (take-append-drop i due)) ∙ level_append (take i due) (drop i due))))
+
 -- ── All levels ──────────────────────────────────────────────────────────────────────────────
 
 -- The level of what each due asks.
@@ -86,6 +103,10 @@ pub record Ranked (level due : List ℕ) (n m y : ℕ) : Type 0 where
   pub stands : Stands due n y
   pub low : at level (y / 2) < m
 
+pub ranked_none : (level due : List ℕ) (n : ℕ) → ranked level due n 0 ≡ []
+unfolding sorted
+ranked_none level due n = refl
+
 module _ (level due : List ℕ) (n : ℕ) (rows : n ≤ length due) where
   key_at : (i : ℕ) → i < n → at (keys level due) i ≡ at level (at due i / 2)
   key_at i h = map_at (λ y. at level (y / 2)) due i (omega arith)
@@ -95,17 +116,13 @@ module _ (level due : List ℕ) (n : ℕ) (rows : n ≤ length due) where
   level_group m zero h = level_none level m
   level_group m (suc i) h = go (level_group m i (omega arith)) (ℕ_discrete (at level (at due i / 2)) m)
     where
-      split : of_level level m (take (suc i) due) ≡ of_level level m (take i due) ++ of_level level m (at due i ∷ [])
-      split = ap (of_level level m) (take-suc due i 0 (omega arith)) ∙ level_append level m (take i due) (at due i ∷ [])
-
       go : of_level level m (take i due) ≡ map (at due) (group (keys level due) m i) → Dec (at level (at due i / 2) ≡ m)
           → of_level level m (take (suc i) due) ≡ map (at due) (group (keys level due) m (suc i))
       go e (yes q) =
-          split ∙ ap₂ (λ a b. a ++ b) e (level_one level m (at due i) q) ∙ sym (map-append (at due) (group (keys level due) m i) (i ∷ []))
+          (rw add-one at (next_hit level m due i (omega arith) q)) ∙ ap (λ l. l ++ at due i ∷ []) e ∙ sym (map-append (at due) (group (keys level due) m i) (i ∷ []))
           ∙ ap (map (at due)) (sym (group_hit (keys level due) m i (key_at i (omega arith) ∙ q)))
       go e (no q) =
-          split ∙ ap₂ (λ a b. a ++ b) e (level_other level m (at due i) q) ∙ append-nil _
-          ∙ ap (map (at due)) (sym (group_miss (keys level due) m i (λ z. q (sym (key_at i (omega arith)) ∙ z))))
+          (rw add-one at (next_miss level m due i (omega arith) q)) ∙ e ∙ ap (map (at due)) (sym (group_miss (keys level due) m i (λ z. q (sym (key_at i (omega arith)) ∙ z))))
 
   pub ranked_more : (m : ℕ) → ranked level due n (suc m) ≡ ranked level due n m ++ of_level level m (take n due)
   unfolding sorted

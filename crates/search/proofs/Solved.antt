@@ -1,7 +1,7 @@
 -- From rows back to what is due.
---   owes_wider          what is due of some cells is due of more
---   solves_planned      the best list by what the rows hold is the best by what is due
+--   solves_same         the best list by what the rows hold is the best by what is due
 --   none_fillable, solves_choice     where nothing is filled a list is a choice
+--   levels_cut          the levels of cells by a cut list
 --   plan_of             what the search is given
 use Prim.Native.Nat.{ℕ, suc, ◌+◌, ◌^◌, ◌/◌, ◌%◌, ◌<◌, ◌≤◌}
 use native.Mathlib.Omega.{arith}
@@ -11,14 +11,14 @@ use mathlib.Core.Path.{◌≡◌, sym, ap, subst}
 use mathlib.Core.Logic.{◌↔◌}
 use Rattle.std.specs.Prelude.{Option, Some, None}
 use mathlib.Core.List.{List, []}
-use lib.ListN.{length}
+use lib.ListN.{length, take}
+use Rattle.std.proofs.lemmas.List.{length-take-le, get_or-take}
 use Rattle.theory.proofs.moves.Prefers.{prefers_below}
 use Rattle.graph.specs.Columns.{at}
-use Rattle.search.specs.declared.Size.{Size}
 use Rattle.search.specs.declared.choices.Extent.{Extent}
-use Rattle.search.specs.inner.Program.{Program, value_at, RightProgram, Owes, GivesDues, Fillable, Fulfils, Solves, SolvesLists, Levelled}
+use Rattle.search.specs.inner.Program.{Program, value_at, RightProgram, rows_of, total_of, GivesDues, Fillable, Fulfils, Solves, SolvesLists, Levelled}
 use Rattle.search.specs.inner.Rows.{Level, Rows, SameDues}
-use Rattle.search.specs.inner.States.{Plan, RowsPlanned}
+use Rattle.search.specs.inner.States.{Plan}
 
 module _ (k : ℕ) (P : Program) {due : List ℕ} {total : ℕ} {row : List ℕ} {dues : ℕ} (s : SameDues due total row dues) where
   due_holds : (c : ℕ) → GivesDues k P row dues c → GivesDues k P due total c
@@ -27,23 +27,9 @@ module _ (k : ℕ) (P : Program) {due : List ℕ} {total : ℕ} {row : List ℕ}
   row_holds : (c : ℕ) → GivesDues k P due total c → GivesDues k P row dues c
   row_holds c h d l = let t = s.sound d l in subst (λ y. y % 2 ≡ value_at P k c (y / 2)) t.holds (h t.place t.within)
 
-  solves_same : (fill : List (Option ℕ)) (best : Option ℕ) → SolvesLists k P row dues fill best → SolvesLists k P due total fill best
+  pub solves_same : (fill : List (Option ℕ)) (best : Option ℕ) → SolvesLists k P row dues fill best → SolvesLists k P due total fill best
   solves_same fill (Some c) r = (r.0, (due_holds (c % 2 ^ k) r.1.0, r.1.1), λ d l p w. r.2 d l p (row_holds (d % 2 ^ k) w.0, w.1))
   solves_same fill None r = λ d l w. r d l (row_holds (d % 2 ^ k) w.0, w.1)
-
-pub owes_wider : {cells : ℕ} (n : ℕ) {due begin : List ℕ} {edges : ℕ} → Owes cells due begin edges → cells ≤ n → Owes n due begin edges
-owes_wider n o h = record {
-  begin_rows = o.begin_rows;
-  due_rows = o.due_rows;
-  few = o.few;
-  none = o.none;
-  rising = o.rising;
-  cell = λ x l. omega (arith, o.cell x l);
-}
-
-pub solves_planned : {s : Size} {due begin : List ℕ} {edges : ℕ} {level row left : List ℕ} {e : Extent} → RowsPlanned s due begin edges level row left e
-    → (P : Program) (fill : List (Option ℕ)) (best : Option ℕ) → SolvesLists e.bits P row e.dues fill best → SolvesLists s.bits P due (at begin edges) fill best
-solves_planned {s} {row = row} {e = e} p P fill best r = solves_same s.bits P p.same fill best (subst (λ b. SolvesLists b P row e.dues fill best) p.bits r)
 
 pub none_fillable : {cells k : ℕ} {P : Program} → RightProgram cells k P → Fillable cells k []
 none_fillable f = record { few = omega (arith, f.few_bits); cell = λ x i e. absurd (let z : None ≡ Some i = e in cc) }
@@ -65,23 +51,41 @@ module _ (k : ℕ) (P : Program) (due : List ℕ) (total : ℕ) where
       let same : 2 ^ (0 + k) ≡ 2 ^ k = ap (λ n. 2 ^ n) (omega arith) in
       a d (omega arith) ((unfilled d h).1 w)
 
-pub plan_of : {e : Extent} {P : Program} {level due : List ℕ} {total : ℕ} {row left : List ℕ}
-    → e.limit ≡ 2 ^ e.bits → RightProgram e.cells e.bits P → Levelled e.cells e.bits P e.levels
-    → ((x : ℕ) → x < total → at due x / 2 < e.cells) → total ≤ 24576 → e.cells ≤ length level
-    → ((i : ℕ) → i < e.cells → Level e.levels (e.bits + 1) i (at level i))
-    → total ≤ length row → total ≤ length left → suc e.bits < length e.rows → at e.rows (suc e.bits) ≡ e.dues
-    → Rows (e.bits + 1) level row left e.rows → SameDues due total row e.dues → Plan e P level row left
-plan_of {e} {level = level} limit f v asks few size own row_room left-room many whole r t = record {
+-- Levels by where those up to the last one begin.
+pub levels_cut : (k : ℕ) (levels level : List ℕ) → suc k < length levels
+    → ((i : ℕ) → i < total_of (take (k + 1 + 1) levels) → Level (take (k + 1 + 1) levels) (rows_of (take (k + 1 + 1) levels)) i (at level i))
+    → (i : ℕ) → i < at levels (suc k) → Level levels (k + 1) i (at level i)
+levels_cut k levels level fits own i h = record { from = omega (arith, w.from, same l (omega (arith, w.few))); below = omega (arith, w.below, same (suc l) (omega (arith, w.few))); few = omega (arith, w.few) }
+  where
+    l : ℕ
+    l = at level i
+
+    many : rows_of (take (k + 1 + 1) levels) ≡ k + 1
+    many = omega (arith, length-take-le (k + 1 + 1) levels (omega arith))
+
+    same : (j : ℕ) → j < k + 1 + 1 → at (take (k + 1 + 1) levels) j ≡ at levels j
+    same j h = get_or-take (k + 1 + 1) levels j 0 h
+
+    w : Level (take (k + 1 + 1) levels) (k + 1) i (at level i)
+    w = subst (λ n. Level (take (k + 1 + 1) levels) n i (at level i)) many (own i (omega (arith, ap (at (take (k + 1 + 1) levels)) many, same (k + 1) (omega arith), ap (at levels) (add-one k))))
+
+pub plan_of : {k : ℕ} {e : Extent} {P : Program} {level due : List ℕ} {total : ℕ} {row left : List ℕ}
+    → e.limit ≡ 2 ^ k → RightProgram (length P.kind) k P → Levelled (length P.kind) k P e.levels
+    → ((x : ℕ) → x < total → at due x / 2 < length P.kind) → total ≤ 24576 → length P.kind ≤ length level
+    → ((i : ℕ) → i < length P.kind → Level e.levels (k + 1) i (at level i))
+    → e.dues ≤ length row → total ≤ length left → suc k < length e.rows → at e.rows (k + 1) ≡ e.dues
+    → Rows (k + 1) level row left e.rows → SameDues due total row e.dues → Plan k e P level row left
+plan_of {k} {e} {P} {level = level} limit f v asks few size own row_room left-room many whole r t = record {
   limit = limit;
   program = f;
   levelled = v;
   level_rows = size;
-  level_of = rw (add-one e.bits) at own;
-  row_rows = omega (arith, t.few);
+  level_of = rw (add-one k) at own;
+  row_rows = row_room;
   left_rows = omega (arith, t.few);
   few_dues = omega (arith, t.few);
   rows_rows = many;
-  whole = whole;
-  cell = λ d h. let y = t.sound d h in subst (λ x. x / 2 < e.cells) y.holds (asks y.place y.within);
-  in_rows = rw (add-one e.bits) at r;
+  whole = rw add-one at whole;
+  cell = λ d h. let y = t.sound d h in subst (λ x. x / 2 < length P.kind) y.holds (asks y.place y.within);
+  in_rows = rw (add-one k) at r;
 }

@@ -6,8 +6,7 @@
 --   Searching best c p sig d     the search's state: the lists of the choices below c are tried, the cells below p are evaluated under c, the first d dues agree with c
 --   searching_on        more cells are evaluated
 --   searching_turn      one due further, where it agrees
---   searching_start     the choice 0, no cell, no due and no list yet
---   searching_jump, jump_up     a later choice
+--   searching_jump      a later choice
 --   searching_drop      the next choice that is not dropped with this one, where a due does not agree
 --   searching_next      the next choice, where all agree
 --   searching_found, searching_none   the best list is found: one whose fillings are all 0, or all choices are tried
@@ -16,7 +15,7 @@
 -- values (`jump_keeps`), and what was due of them agrees still. They and their dues were all looked at before the wrong one, whose level is no lower.
 use Prim.Native.Nat.{ℕ, suc, ◌+◌, ◌-◌, ◌^◌, ◌/◌, ◌%◌, ◌<◌, ◌≤◌}
 use native.Mathlib.Omega.{arith}
-use native.Mathlib.Nat.{zero-div, div-eq_of_lt-le, div-mul-le_self, mod-eq_of_lt, mod-le}
+use native.Mathlib.Nat.{div-eq_of_lt-le, div-mul-le_self, mod-eq_of_lt, mod-le}
 use native.Mathlib.Decide.{ℕ_discrete, dec_lt}
 use native.Mathlib.Numerals.{add-one}
 use mathlib.Core.Path.{◌≡◌, refl, sym, subst, ap, ◌∙◌}
@@ -27,119 +26,101 @@ use lib.Seq.{get_or-set_same, get_or-set_other}
 use lib.Pow.{pow_pos}
 use Rattle.theory.specs.Gate.{gate}
 use Rattle.graph.specs.Columns.{at}
-use Rattle.gates.specs.inner.Gates.{part, Reckons, InputRows}
+use Rattle.gates.specs.inner.Gates.{Reckons, InputRows}
 use Rattle.gates.proofs.Words.{part_length}
 use Rattle.gates.proofs.Row.{part_rows}
-use Rattle.std.specs.Prelude.{Option, Some, None}
+use Rattle.std.specs.Prelude.{Option, Some}
 use Rattle.search.specs.declared.choices.Extent.{Extent}
 use Rattle.search.specs.declared.choices.Turn.{Turn}
-use Rattle.search.specs.inner.Program.{Program, look, values_to, value_at, GivesDues, Fillable, SolvesLists}
+use Rattle.search.specs.inner.Program.{Program, look, operands_of, values_to, value_at, RightProgram, GivesDues, Fillable, SolvesLists}
 use Rattle.search.specs.inner.Rows.{Level}
-use Rattle.search.specs.inner.States.{Evaluator, program_in, Executable, Valued, next_after, Jumped, ListOf, Better, Plan}
+use Rattle.search.specs.inner.States.{Truthful, Valued, next_after, Jumped, ListOf, Better, Plan}
 use Rattle.search.proofs.Putting.{climb}
 use Rattle.search.proofs.Next.{next_bounds}
-use Rattle.search.proofs.Values.{part_same, look_bit, look_cell, values_at, value_gate, operand_bit, agree}
-use Rattle.search.proofs.Lists.{prefers_low, prefers_through, list_fulfils, list_least, Tried, tried_none, tried_on, tried_more, tried_end}
+use Rattle.search.proofs.Values.{part_same, look_bit, look_cell, values_at, value_gate, either, operand_bit, agree}
+use Rattle.search.proofs.Lists.{prefers_low, prefers_through, list_fulfils, list_least, Tried, tried_on, tried_more, tried_end}
 
 -- ── Cells ───────────────────────────────────────────────────────────────────────────────────
 
-pub truth_next : {cells k : ℕ} {kind : List ℕ} {E : Evaluator} {i : ℕ} → Executable cells k kind E → i < cells
-    → Reckons (at kind i) (length (part E.operand (at E.first i) (at E.first (i + 1)))) (at E.truth i)
-truth_next {E = E} {i = i} r l = rw (add-one i, part_length E.operand (at E.first i) (at E.first (suc i)) (r.program.in_rows i l)) (r.truths i l)
+pub truth_next : {k : ℕ} {P : Program} (truth : List ℕ) (i : ℕ) → RightProgram (length P.kind) k P → Truthful P.kind P.first truth → i < length P.kind
+    → Reckons (at P.kind i) (length (operands_of P.first P.operand i)) (at truth i)
+truth_next {P = P} truth i r t l = rw (part_length P.operand (at P.first i) (at P.first (suc i)) (r.in_rows i l)) (t i l)
 
-module _ {cells k : ℕ} {kind : List ℕ} {E : Evaluator} {c p : ℕ} {sig : List ℕ} (r : Executable cells k kind E) (s : Valued cells k (program_in E kind) c p sig)
-    (l : p < cells) where
+module _ {k : ℕ} {P : Program} {c p : ℕ} {sig : List ℕ} (r : RightProgram (length P.kind) k P) (s : Valued (length P.kind) k P c p sig) (l : p < length P.kind) where
   -- An operand is a bit, or a cell before.
-  signal : (j : ℕ) → at E.first p ≤ j → j < at E.first (suc p) → at sig (at E.operand j) ≡ look k c (values_to (program_in E kind) k c p) (at E.operand j)
-  signal j a b = go (r.program.earlier p j l a b)
+  signal : (j : ℕ) → at P.first p ≤ j → j < at P.first (suc p) → at sig (at P.operand j) ≡ look k c (values_to P k c p) (at P.operand j)
+  signal j a b = go (either r p j l a b)
     where
-      go : (at E.operand j < k) ⊎ ((32 ≤ at E.operand j) × (at E.operand j < 32 + p)) → at sig (at E.operand j) ≡ look k c (values_to (program_in E kind) k c p) (at E.operand j)
-      go (inl w) = s.bits (at E.operand j) w ∙ sym (look_bit k c _ (at E.operand j) (omega (arith, r.program.few_bits)))
+      go : (at P.operand j < k) ⊎ ((32 ≤ at P.operand j) × (at P.operand j < 32 + p)) → at sig (at P.operand j) ≡ look k c (values_to P k c p) (at P.operand j)
+      go (inl w) = s.bits (at P.operand j) w ∙ sym (look_bit k c _ (at P.operand j) (omega (arith, r.few_bits)))
       go (inr w) =
-          let m = at E.operand j - 32 in
-          let z : at E.operand j ≡ 32 + m = omega arith in
+          let m = at P.operand j - 32 in
+          let z : at P.operand j ≡ 32 + m = omega arith in
           ap (at sig) z
           ∙ s.values m (omega arith)
-          ∙ sym (values_at (program_in E kind) k c p m (omega arith))
-          ∙ sym (look_cell k c _ (at E.operand j) w.0)
+          ∙ sym (values_at P k c p m (omega arith))
+          ∙ sym (look_cell k c _ (at P.operand j) w.0)
 
-  pub valued_seen : InputRows (at E.truth p) (part E.operand (at E.first p) (at E.first (p + 1))) sig
-  valued_seen = rw (add-one p) (part_rows (at E.truth p) E.operand (at E.first p) (at E.first (suc p)) sig (r.program.in_rows p l) (r.truths p l).narrow (λ j a b. (
+  pub valued_seen : (truth : List ℕ) → Truthful P.kind P.first truth → InputRows (at truth p) (operands_of P.first P.operand p) sig
+  valued_seen truth t = part_rows (at truth p) P.operand (at P.first p) (at P.first (suc p)) sig (r.in_rows p l) (t p l).narrow (λ j a b. (
     ⊎_elim
-        (λ (w : at E.operand j < k). omega (arith, s.size, r.program.few_bits))
-        (λ (w : (32 ≤ at E.operand j) × (at E.operand j < 32 + p)). omega (arith, s.size, r.program.few_cells))
-        (r.program.earlier p j l a b),
-    rw (signal j a b) (operand_bit r.program c p j l a b),
-  )))
+        (λ (w : at P.operand j < k). omega (arith, s.size, r.few_bits))
+        (λ (w : (32 ≤ at P.operand j) × (at P.operand j < 32 + p)). omega (arith, s.size, r.few_cells))
+        (either r p j l a b),
+    rw (signal j a b) (operand_bit r c p j l a b),
+  ))
 
-  pub valued_value : {x : ℕ} → x ≡ gate (at kind p) (map (at sig) (part E.operand (at E.first p) (at E.first (p + 1)))) → x ≡ value_at (program_in E kind) k c p
+  pub valued_value : {x : ℕ} → x ≡ gate (at P.kind p) (map (at sig) (operands_of P.first P.operand p)) → x ≡ value_at P k c p
   valued_value e =
-      (rw (add-one p) at e)
-      ∙ ap (gate (at kind p)) (part_same (at sig) _ E.operand (at E.first p) (at E.first (suc p)) (r.program.in_rows p l) signal)
-      ∙ sym (value_gate (program_in E kind) k c p)
+      e
+      ∙ ap (gate (at P.kind p)) (part_same (at sig) _ P.operand (at P.first p) (at P.first (suc p)) (r.in_rows p l) signal)
+      ∙ sym (value_gate P k c p)
 
-  pub valued_more : {x : ℕ} → x ≡ value_at (program_in E kind) k c p → Valued cells k (program_in E kind) c (p + 1) (set sig (32 + p) x)
+  pub valued_more : {x : ℕ} → x ≡ value_at P k c p → Valued (length P.kind) k P c (p + 1) (set sig (32 + p) x)
   valued_more {x} e = record {
     size = omega (arith, length-set sig (32 + p) x, s.size);
     few = omega arith;
-    bits = λ y h. get_or-set_other sig (32 + p) y x 0 (λ z. omega (arith, r.program.few_bits)) ∙ s.bits y h;
+    bits = λ y h. get_or-set_other sig (32 + p) y x 0 (λ z. omega (arith, r.few_bits)) ∙ s.bits y h;
     values = λ i h. go i h (ℕ_discrete i p);
   }
     where
-      go : (i : ℕ) → i < p + 1 → Dec (i ≡ p) → at (set sig (32 + p) x) (32 + i) ≡ value_at (program_in E kind) k c i
-      go i h (yes z) = rw z (get_or-set_same sig (32 + p) x 0 (omega (arith, s.size, r.program.few_cells)) ∙ e)
+      go : (i : ℕ) → i < p + 1 → Dec (i ≡ p) → at (set sig (32 + p) x) (32 + i) ≡ value_at P k c i
+      go i h (yes z) = rw z (get_or-set_same sig (32 + p) x 0 (omega (arith, s.size, r.few_cells)) ∙ e)
       go i h (no z) = get_or-set_other sig (32 + p) (32 + i) x 0 (λ y. z (omega arith)) ∙ s.values i (omega arith)
 
 -- ── Choices ─────────────────────────────────────────────────────────────────────────────────
 
-pub record Searching (e : Extent) (P : Program) (row : List ℕ) (fill : List (Option ℕ)) (best : Option ℕ) (c p : ℕ) (sig : List ℕ) (d : ℕ) : Type 0 where
-  pub limit : c ≤ 2 ^ e.bits
-  pub tried : Tried e.bits P row e.dues fill c best
-  pub valued : Valued e.cells e.bits P c p sig
+pub record Searching (k : ℕ) (e : Extent) (P : Program) (row : List ℕ) (fill : List (Option ℕ)) (best : Option ℕ) (c p : ℕ) (sig : List ℕ) (d : ℕ) : Type 0 where
+  pub limit : c ≤ 2 ^ k
+  pub tried : Tried k P row e.dues fill c best
+  pub valued : Valued (length P.kind) k P c p sig
   pub few : d ≤ e.dues
-  pub agreed : GivesDues e.bits P row d c
+  pub agreed : GivesDues k P row d c
 
-climbs : {e : Extent} {P : Program} {level row left : List ℕ} → Plan e P level row left → (a b : ℕ) → a ≤ b → b ≤ suc e.bits → at e.levels a ≤ at e.levels b
-climbs {e} g = climb e.levels (suc e.bits) (λ n h. g.levelled.climbs n (omega arith))
+climbs : {k : ℕ} {e : Extent} {P : Program} {level row left : List ℕ} → Plan k e P level row left → (a b : ℕ) → a ≤ b → b ≤ suc k → at e.levels a ≤ at e.levels b
+climbs {k} {e} g = climb e.levels (suc k) (λ n h. g.levelled.climbs n (omega arith))
 
-module _ {e : Extent} {P : Program} {level row left : List ℕ} {fill : List (Option ℕ)} (g : Plan e P level row left) where
-  pub searching_start : (sig : List ℕ) → 32 + e.cells ≤ length sig → ((x : ℕ) → x < 32 → at sig x ≡ 0) → Searching e P row fill None 0 0 sig 0
-  searching_start sig n z = record {
-    limit = omega arith;
-    tried = tried_none;
-    valued = record {
-      size = n;
-      few = omega arith;
-      bits = λ x h. z x (omega (arith, g.program.few_bits)) ∙ sym (ap (λ v. v % 2) (zero-div (2 ^ (e.bits - suc x))));
-      values = λ i h. absurd (let y : ⊥ = omega arith in y);
-    };
-    few = omega arith;
-    agreed = λ x h. absurd (let y : ⊥ = omega arith in y);
-  }
-
-  module _ {best : Option ℕ} {c p : ℕ} {sig : List ℕ} {d : ℕ} (s : Searching e P row fill best c p sig d) where
-    pub searching_on : {q : ℕ} {after : List ℕ} → Valued e.cells e.bits P c q after → Searching e P row fill best c q after d
+module _ {k : ℕ} {e : Extent} {P : Program} {level row left : List ℕ} {fill : List (Option ℕ)} (g : Plan k e P level row left) where
+  module _ {best : Option ℕ} {c p : ℕ} {sig : List ℕ} {d : ℕ} (s : Searching k e P row fill best c p sig d) where
+    pub searching_on : {q : ℕ} {after : List ℕ} → Valued (length P.kind) k P c q after → Searching k e P row fill best c q after d
     searching_on v = record { limit = s.limit; tried = s.tried; valued = v; few = s.few; agreed = s.agreed }
 
-    pub searching_none : 2 ^ e.bits ≤ c → SolvesLists e.bits P row e.dues fill best
-    searching_none h = tried_end s.tried (λ d l. absurd (let y : ⊥ = omega (arith, pow_pos e.bits) in y))
+    pub searching_none : 2 ^ k ≤ c → SolvesLists k P row e.dues fill best
+    searching_none h = tried_end s.tried (λ d l. absurd (let y : ⊥ = omega (arith, pow_pos k) in y))
 
     -- A later choice: a jump from level m, where the cells and the dues below the first changed level were looked at.
-    module _ {m : ℕ} (low : m ≤ e.bits) (small : c < 2 ^ e.bits) {after : List ℕ} {t : Turn} (j : Jumped c e.bits m e.levels e.rows sig after t) where
-      pub jump_up : c < t.choice
-      jump_up = omega (arith, j.next, (next_bounds c e.bits (e.bits - m) small (omega arith)).0)
-
+    module _ {m : ℕ} (low : m ≤ k) (small : c < 2 ^ k) {after : List ℕ} {t : Turn} (j : Jumped c k m e.levels e.rows sig after t) where
       module _ (early : at e.levels j.level ≤ p) (before : at e.rows j.level ≤ d) where
         -- Cells that depend on unchanged bits alone.
-        jump_keeps : (n : ℕ) → n < at e.levels j.level → value_at P e.bits c n ≡ value_at P e.bits t.choice n
+        jump_keeps : (n : ℕ) → n < at e.levels j.level → value_at P k c n ≡ value_at P k t.choice n
         jump_keeps n h = go (ℕ_discrete j.level 0)
           where
-            go : Dec (j.level ≡ 0) → value_at P e.bits c n ≡ value_at P e.bits t.choice n
+            go : Dec (j.level ≡ 0) → value_at P k c n ≡ value_at P k t.choice n
             go (yes z) = absurd (let y : ⊥ = omega (arith, ap (at e.levels) z, g.levelled.none) in y)
             go (no z) =
                 let y = j.level - 1 in
                 let q : suc y ≡ j.level = omega arith in
-                let f : suc e.bits - j.level ≡ e.bits - y = omega (arith, j.most) in
+                let f : suc k - j.level ≡ k - y = omega (arith, j.most) in
                 agree g.program g.levelled c t.choice y (omega (arith, j.most)) (rw f at j.agree) n (rw q h)
 
         due_low : (x : ℕ) → x < at e.rows j.level → at row x / 2 < at e.levels j.level
@@ -148,14 +129,14 @@ module _ {e : Extent} {P : Program} {level row left : List ℕ} {fill : List (Op
             let w = g.in_rows.low j.level x (omega (arith, j.most)) h in
             omega (arith, (g.level_of i (g.cell x (omega (arith, before, s.few)))).below, climbs g (suc (at level i)) j.level w (omega (arith, j.most)))
 
-        pub searching_jump : {next : Option ℕ} → length after ≡ length sig → Tried e.bits P row e.dues fill (next_after c (e.bits - m)) next
-            → Searching e P row fill next t.choice t.cell after t.due
+        pub searching_jump : {next : Option ℕ} → length after ≡ length sig → Tried k P row e.dues fill (next_after c (k - m)) next
+            → Searching k e P row fill next t.choice t.cell after t.due
         searching_jump {next} n tried = rw (j.cell_at, j.due_at) (record {
-          limit = omega (arith, j.next, (next_bounds c e.bits (e.bits - m) small (omega arith)).1);
-          tried = subst (λ b. Tried e.bits P row e.dues fill b next) (sym j.next) tried;
+          limit = omega (arith, j.next, (next_bounds c k (k - m) small (omega arith)).1);
+          tried = subst (λ b. Tried k P row e.dues fill b next) (sym j.next) tried;
           valued = record {
             size = omega (arith, n, s.valued.size);
-            few = omega (arith, climbs g j.level (suc e.bits) (omega (arith, j.most)) (omega arith), g.levelled.whole);
+            few = omega (arith, climbs g j.level (suc k) (omega (arith, j.most)) (omega arith), g.levelled.whole);
             bits = j.bits;
             values = λ i h. j.cells (32 + i) (omega (arith, g.program.few_bits)) ∙ s.valued.values i (omega (arith, early)) ∙ jump_keeps i h;
           };
@@ -165,7 +146,7 @@ module _ {e : Extent} {P : Program} {level row left : List ℕ} {fill : List (Op
 
     -- The due whose turn it is asks a cell that is evaluated.
     module _ (l : d < e.dues) (u : at row d / 2 < p) where
-      pub searching_turn : at sig (32 + at row d / 2) ≡ at row d % 2 → Searching e P row fill best c p sig (d + 1)
+      pub searching_turn : at sig (32 + at row d / 2) ≡ at row d % 2 → Searching k e P row fill best c p sig (d + 1)
       searching_turn q = record {
         limit = s.limit;
         tried = s.tried;
@@ -174,23 +155,23 @@ module _ {e : Extent} {P : Program} {level row left : List ℕ} {fill : List (Op
         agreed = λ x h. go x h (ℕ_discrete x d);
       }
         where
-          go : (x : ℕ) → x < d + 1 → Dec (x ≡ d) → at row x % 2 ≡ value_at P e.bits c (at row x / 2)
+          go : (x : ℕ) → x < d + 1 → Dec (x ≡ d) → at row x % 2 ≡ value_at P k c (at row x / 2)
           go x h (yes z) = rw z (sym q ∙ s.valued.values (at row d / 2) u)
           go x h (no z) = s.agreed x (omega arith)
 
       module _ (wrong : ¬ (at sig (32 + at row d / 2) ≡ at row d % 2)) where
-        own : Level e.levels (suc e.bits) (at row d / 2) (at level (at row d / 2))
+        own : Level e.levels (suc k) (at row d / 2) (at level (at row d / 2))
         own = g.level_of (at row d / 2) (g.cell d l)
 
-        dead : (n : ℕ) → c ≤ n → n < next_after c (e.bits - at level (at row d / 2)) → ¬ GivesDues e.bits P row e.dues n
-        dead n h k holds =
+        dead : (n : ℕ) → c ≤ n → n < next_after c (k - at level (at row d / 2)) → ¬ GivesDues k P row e.dues n
+        dead n h below holds =
             let i = at row d / 2 in
-            let b = e.bits - at level i in
-            let z : n / 2 ^ b ≡ c / 2 ^ b = div-eq_of_lt-le (2 ^ b) (omega (arith, div-mul-le_self c (2 ^ b))) (rw add-one k) in
+            let b = k - at level i in
+            let z : n / 2 ^ b ≡ c / 2 ^ b = div-eq_of_lt-le (2 ^ b) (omega (arith, div-mul-le_self c (2 ^ b))) (rw add-one below) in
             wrong (s.valued.values i u ∙ sym (holds d l ∙ agree g.program g.levelled n c (at level i) (omega (arith, own.few)) z i own.below))
 
-        pub searching_drop : c < 2 ^ e.bits → {after : List ℕ} {t : Turn} → Jumped c e.bits (at level (at row d / 2)) e.levels e.rows sig after t
-            → length after ≡ length sig → Searching e P row fill best t.choice t.cell after t.due
+        pub searching_drop : c < 2 ^ k → {after : List ℕ} {t : Turn} → Jumped c k (at level (at row d / 2)) e.levels e.rows sig after t
+            → length after ≡ length sig → Searching k e P row fill best t.choice t.cell after t.due
         searching_drop small {after} {t} j n =
             searching_jump (omega (arith, own.few)) small j
             (omega (arith, climbs g j.level (at level (at row d / 2)) j.most (omega (arith, own.few)), own.from))
@@ -201,24 +182,24 @@ module _ {e : Extent} {P : Program} {level row left : List ℕ} {fill : List (Op
             before (no q) = omega arith
 
     -- All dues agree, and all cells are evaluated.
-    module _ (a : Fillable e.cells e.bits fill) (all : e.dues ≤ d) (whole : e.cells ≤ p) {list : ℕ} (o : ListOf e.bits fill sig c list)
+    module _ (a : Fillable (length P.kind) k fill) (all : e.dues ≤ d) (whole : length P.kind ≤ p) {list : ℕ} (o : ListOf k fill sig c list)
         {after : ℕ} (b : Better best list after) where
-      tried_own : Tried e.bits P row e.dues fill (suc c) (Some after)
+      tried_own : Tried k P row e.dues fill (suc c) (Some after)
       tried_own = tried_more s.tried b o.few (list_fulfils a s.valued whole o row e.dues (λ x h. s.agreed x (omega arith))) (list_least a s.valued whole o)
 
-      pub searching_next : c < 2 ^ e.bits → {new : List ℕ} {t : Turn} → Jumped c e.bits e.bits e.levels e.rows sig new t → length new ≡ length sig
-          → Searching e P row fill (Some after) t.choice t.cell new t.due
+      pub searching_next : c < 2 ^ k → {new : List ℕ} {t : Turn} → Jumped c k k e.levels e.rows sig new t → length new ≡ length sig
+          → Searching k e P row fill (Some after) t.choice t.cell new t.due
       searching_next small j n =
           searching_jump (omega arith) small j
-          (omega (arith, climbs g j.level (suc e.bits) (omega (arith, j.most)) (omega arith), g.levelled.whole))
+          (omega (arith, climbs g j.level (suc k) (omega (arith, j.most)) (omega arith), g.levelled.whole))
           (omega (arith, g.in_rows.most j.level (omega (arith, j.most)), g.whole)) n
-          (subst (λ x. Tried e.bits P row e.dues fill x (Some after)) next tried_own)
+          (subst (λ x. Tried k P row e.dues fill x (Some after)) next tried_own)
         where
-          next : suc c ≡ next_after c (e.bits - e.bits)
-          next = let z : e.bits - e.bits ≡ 0 = omega arith in rw z (omega arith)
+          next : suc c ≡ next_after c (k - k)
+          next = let z : k - k ≡ 0 = omega arith in rw z (omega arith)
 
       -- No later list is preferred to one whose fillings are all 0.
-      pub searching_found : list < 2 ^ e.bits → SolvesLists e.bits P row e.dues fill (Some after)
+      pub searching_found : list < 2 ^ k → SolvesLists k P row e.dues fill (Some after)
       searching_found h =
           tried_end tried_own
-          (λ d l. record { x = after; is = refl; over = prefers_through d list after (prefers_low list d (omega (arith, o.choice, mod-eq_of_lt h, mod-le d (2 ^ e.bits)))) b.over_list })
+          (λ d l. record { x = after; is = refl; over = prefers_through d list after (prefers_low list d (omega (arith, o.choice, mod-eq_of_lt h, mod-le d (2 ^ k)))) b.over_list })

@@ -2,12 +2,13 @@
 --   values_length, values_at   the first n values are n, and do not change when more cells are added
 --   part_same                  what is seen of a part of a list depends on its members alone
 --   look_bit, look_cell        an operand is a chosen bit or a cell
+--   either, earlier_of         an operand of a right program is a bit below k or an earlier cell, as one fact of two cases
 --   value_gate, value_bit      a cell's value is its gate's, of what its operands show: 0 or 1
 --   operand_bit                so is what an operand shows
 --   agree                      choices with the same first m bits give the same to every cell of a level up to m
 use Prim.Native.Nat.{ℕ, zero, suc, ◌+◌, ◌-◌, ◌^◌, ◌/◌, ◌%◌, ◌<◌, ◌≤◌}
 use native.Mathlib.Omega.{arith}
-use native.Mathlib.Decide.{ℕ_discrete}
+use native.Mathlib.Decide.{ℕ_discrete, dec_lt}
 use mathlib.Core.Path.{◌≡◌, refl, sym, ap, ap₂, ◌∙◌}
 use mathlib.Core.Logic.{⊎_elim, ◌⊎◌, inl, inr}
 use mathlib.Core.List.{List, [], ◌∷◌, map}
@@ -72,9 +73,22 @@ module _ (P : Program) (k c : ℕ) where
   pub value_bit : (i : ℕ) → value_at P k c i ≤ 1
   value_bit i = rw (value_gate i) (gate_bit (at P.kind i) (map (look k c (values_to P k c i)) (operands_of P.first P.operand i)))
 
+-- ── Operands of a right program ─────────────────────────────────────────────────────────────
+
+pub earlier_of : (k x i : ℕ) → k ≤ 24 → (x < k) ⊎ ((32 ≤ x) × (x < 32 + i)) → (x < 32 → x < k) × (32 ≤ x → x < 32 + i)
+earlier_of k x i few (inl w) = (λ l. w, λ l. omega arith)
+earlier_of k x i few (inr w) = (λ l. absurd (let z : ⊥ = omega arith in z), λ l. w.1)
+
 -- ── What a value depends on ─────────────────────────────────────────────────────────────────
 
 module _ {cells k : ℕ} {P : Program} (f : RightProgram cells k P) where
+  pub either : (i j : ℕ) → i < cells → at P.first i ≤ j → j < at P.first (suc i) → (at P.operand j < k) ⊎ ((32 ≤ at P.operand j) × (at P.operand j < 32 + i))
+  either i j h a b = go (dec_lt (at P.operand j) 32)
+    where
+      go : Dec (at P.operand j < 32) → (at P.operand j < k) ⊎ ((32 ≤ at P.operand j) × (at P.operand j < 32 + i))
+      go (yes l) = inl ((f.earlier i j h a b).0 l)
+      go (no l) = let big : 32 ≤ at P.operand j = omega arith in inr (big, (f.earlier i j h a b).1 big)
+
   -- An operand of cell i shows a chosen bit, or an earlier cell's value.
   pub operand_bit : (c i j : ℕ) → i < cells → at P.first i ≤ j → j < at P.first (suc i) → look k c (values_to P k c i) (at P.operand j) ≤ 1
   operand_bit c i j h a b =
@@ -83,7 +97,7 @@ module _ {cells k : ℕ} {P : Program} (f : RightProgram cells k P) where
       (λ (w : x < k). rw (look_bit k c (values_to P k c i) x (omega (arith, f.few_bits))) (omega arith))
       (λ (w : (32 ≤ x) × (x < 32 + i)).
       rw (look_cell k c (values_to P k c i) x w.0, values_at P k c i (x - 32) (omega arith)) (value_bit P k c (x - 32)))
-      (f.earlier i j h a b)
+      (either i j h a b)
 
   module _ {levels : List ℕ} (v : Levelled cells k P levels) (c d m : ℕ) (few : m ≤ k) (e : c / 2 ^ (k - m) ≡ d / 2 ^ (k - m)) where
     inside : (i : ℕ) → i < at levels (suc m) → i < cells
@@ -93,7 +107,7 @@ module _ {cells k : ℕ} {P : Program} (f : RightProgram cells k P) where
     operand_same : (i j : ℕ) → i < at levels (suc m) → at P.first i ≤ j → j < at P.first (suc i)
         → ((n : ℕ) → n < i → value_at P k c n ≡ value_at P k d n)
         → look k c (values_to P k c i) (at P.operand j) ≡ look k d (values_to P k d i) (at P.operand j)
-    operand_same i j h a b before = go (f.earlier i j (inside i h) a b)
+    operand_same i j h a b before = go (either i j (inside i h) a b)
       where
         go : (at P.operand j < k) ⊎ ((32 ≤ at P.operand j) × (at P.operand j < 32 + i))
             → look k c (values_to P k c i) (at P.operand j) ≡ look k d (values_to P k d i) (at P.operand j)

@@ -1,23 +1,22 @@
 // The search over rows.
-// Private to the crate: `search` hands on the plan that it asks for.
+// Private to the crate: `search_within` makes the plan that it asks for.
 //
 // Signals: what each operand shows, the chosen bit x at x and the value of cell i at 32 + i.
 ghost use Rattle.std.specs.Prelude.{◌≡◌, ℕ, ◌↔◌, ◌+◌, ◌-◌, ◌^◌, ◌≤◌, ◌<◌, true, length, ◌==◌};
 ghost use Rattle.std.specs.List.{suffix_len};
 ghost use Rattle.theory.specs.Move.{Prefers};
 ghost use Rattle.graph.specs.Columns.{at};
-ghost use Rattle.search.specs.inner.Program.{program_of, asked, Fillable, SolvesLists};
-ghost use Rattle.search.specs.inner.States.{next_after, ChoiceShown, evaluator_of, CanEvaluate, EvaluatedTo, Advanced, Jumped, Executable, filled, ListOf, Better, Plan, Fresh};
+ghost use Rattle.search.specs.inner.Program.{asked, Fillable, SolvesLists};
+ghost use Rattle.search.specs.inner.Problem.{columns_of};
+ghost use Rattle.search.specs.inner.States.{next_after, ChoiceShown, Truthful, CanEvaluate, EvaluatedTo, Advanced, Jumped, filled, ListOf, Better, Plan, Fresh};
 
-use crate::{LEVELS, Program};
+use crate::{LEVELS, Program, SHOWN};
 use gates::{IndexTable, value};
 
-// How far the search goes: the bits of a choice, the limit of choices, how many cells and dues there are, and where those of each level begin.
+// How far the search goes: the limit of choices, how many dues there are, and where the cells and the dues of each level begin.
 #[derive(Clone, Copy)]
 pub struct Extent {
-    pub bits: u32,
     pub limit: u32,
-    pub cells: usize,
     pub dues: usize,
     pub levels: [u16; LEVELS],
     pub rows: [u16; LEVELS],
@@ -29,6 +28,8 @@ pub struct Cells<'a> {
     pub program: Program<'a>,
     pub truth: &'a [u16],
     pub index: &'a IndexTable,
+    pub ghost truth_rows: { length program.kind.now ≤ length truth.now },
+    pub ghost truths: { Truthful program.kind.now program.first.now truth.now },
 }
 
 // What is due, in rows: the level of each cell, the dues, and at each of their places how much is left of its row.
@@ -56,18 +57,17 @@ pub fn two_to(k: u32) -> u32
 }
 
 // The cells from `start` up to `end`, in turn. The larger of the two.
+// Kept: a loop beside that of `gates::evaluate`, which goes through a list of gates: here they are a range, and a column that lists them would be read once more
+// for each of the search's evaluations.
 fn evaluate(cells: &Cells<'_>, start: usize, end: usize, sig: &mut [u8]) -> usize
-    requires { CanEvaluate (evaluator_of cells.now.truth.now cells.now.program.first.now cells.now.program.operand.now) start end sig.old }
-    ensures { EvaluatedTo (evaluator_of cells.now.truth.now cells.now.program.first.now cells.now.program.operand.now)
-        start end sig.old sig.new result }
+    requires { CanEvaluate cells.now.program.bits (columns_of cells.now.program) start end sig.old }
+    ensures { EvaluatedTo cells.now.program.bits (columns_of cells.now.program) start end sig.old sig.new result }
 {
+    let program = cells.program;
     let truth = cells.truth;
     let index = cells.index;
-    let first = cells.program.first;
-    let operand = cells.program.operand;
     for i in start..end {
-        let sees = &operand[first[i] as usize..first[i + 1] as usize];
-        sig[32 + i] = value(truth[i], index, sees, sig);
+        sig[SHOWN + i] = value(truth[i], index, program.operands(i), sig);
     }
     start.max(end)
 }
@@ -102,14 +102,14 @@ fn advance(k: usize, m: usize, sig: &mut [u8]) -> usize
     x
 }
 
-// On to the first choice that differs in one of the first m bits, and there to the first cell and the first due that depend on a changed bit.
-fn jump(choice: u32, m: u8, e: &Extent, sig: &mut [u8]) -> Turn
-    requires { (choice < 2 ^ e.now.bits) × (e.now.bits ≤ 24) × (m ≤ e.now.bits) × ChoiceShown e.now.bits choice sig.old × (e.now.bits ≤ length sig.old) }
-    ensures { Jumped choice e.now.bits m e.now.levels e.now.rows sig.old sig.new result }
+// On to the first choice of k bits that differs in one of the first m, and there to the first cell and the first due that depend on a changed bit.
+fn jump(choice: u32, k: u32, m: u32, e: &Extent, sig: &mut [u8]) -> Turn
+    requires { (choice < 2 ^ k) × (k ≤ 24) × (m ≤ k) × ChoiceShown k choice sig.old × (k ≤ length sig.old) }
+    ensures { Jumped choice k m e.now.levels e.now.rows sig.old sig.new result }
 {
-    let x = advance(e.bits as usize, m as usize, sig);
+    let x = advance(k as usize, m as usize, sig);
     Turn {
-        choice: next_after(choice, e.bits - m as u32),
+        choice: next_after(choice, k - m),
         cell: e.levels[x] as usize,
         due: e.rows[x] as usize,
     }
@@ -121,7 +121,7 @@ fn filling(place: Option<u16>, sig: &[u8]) -> u32
     ensures { result ≡ filled sig.now place }
 {
     match place {
-        Some(cell) => sig[32 + cell as usize] as u32,
+        Some(cell) => u32::from(sig[SHOWN + cell as usize]),
         None => 0,
     }
 }
@@ -165,14 +165,12 @@ pub fn best_list(
     e: Extent,
     sig: &mut [u8],
 ) -> Option<u32>
-    requires planned { Plan e (program_of cells.program.kind.now cells.program.first.now cells.program.operand.now)
-        rows.level.now rows.row.now rows.left.now × Fresh e.cells sig.old }
-    requires ready { Executable e.cells e.bits cells.program.kind.now
-        (evaluator_of cells.truth.now cells.program.first.now cells.program.operand.now) }
-    requires fillable { Fillable e.cells e.bits fill.now }
-    ensures { SolvesLists e.bits (program_of cells.entry.program.kind.now cells.entry.program.first.now cells.entry.program.operand.now)
-        rows.entry.row.now e.dues fill.now result }
+    requires planned { Plan cells.program.bits e (columns_of cells.program) rows.level.now rows.row.now rows.left.now }
+    requires fresh { Fresh (length cells.program.kind.now) sig.old }
+    requires fillable { Fillable (length cells.program.kind.now) cells.program.bits fill.now }
+    ensures { SolvesLists cells.entry.program.bits (columns_of cells.entry.program) rows.entry.row.now e.dues fill.now result }
 {
+    let k = cells.program.bits;
     let mut best = None;
     let mut turn = Turn {
         choice: 0,
@@ -189,20 +187,20 @@ pub fn best_list(
                 let due = rows.row[turn.due];
                 let i = (due / 2) as usize;
                 turn.cell = evaluate(&cells, turn.cell, i + 1, sig);
-                if sig[32 + i] as u16 != due % 2 {
-                    turn = jump(turn.choice, rows.level[i], &e, sig);
+                if u16::from(sig[SHOWN + i]) != due % 2 {
+                    turn = jump(turn.choice, k, u32::from(rows.level[i]), &e, sig);
                     continue 'search;
                 }
                 turn.due += 1;
             }
         }
-        evaluate(&cells, turn.cell, e.cells, sig);
-        let list = list_of(turn.choice, e.bits, fill, sig);
+        evaluate(&cells, turn.cell, cells.program.kind.len(), sig);
+        let list = list_of(turn.choice, k, fill, sig);
         best = Some(better(best, list));
         if list < e.limit {
             return best;
         }
-        turn = jump(turn.choice, e.bits as u8, &e, sig);
+        turn = jump(turn.choice, k, k, &e, sig);
     }
     best
 }

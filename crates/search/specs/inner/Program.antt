@@ -7,6 +7,8 @@
 --   operands_of         the operands of a cell
 --   values_to, value_at  under the choice c of k bits: the values of the first n cells, the value of cell i
 --   RightProgram        the gates keep their rules, and their operands are bits below k and earlier cells
+--   rows_of begin       how many rows there are, by where they begin and where the last one ends
+--   total_of begin      how much stands in them
 --   Owes                what is due: the number 2 i + x says that cell i must give x; the dues are in rows, each a run of one edge's moved clocks
 --   asked fill x        what asks for filling x: a cell, or nothing
 --   GivesDues           every cell gives what is due of it
@@ -16,7 +18,7 @@
 --   Solves              the best choice under which every cell gives what is due of it, or that there is none
 --   SolvesLists         the best list that fulfils, or that none does
 --   Levelled            cells are in rising order of the leading bits that they depend on; those of level m, which see no bit from m on, begin at levels(m)
-use Rattle.std.specs.Prelude.{◌≡◌, Option, Some, None, cond, ◌⊎◌, List, [], ◌∷◌, ◌++◌, map, ℕ, zero, suc, ◌+◌, ◌-◌, ◌^◌, ◌/◌, ◌%◌, ◌<◌, ◌≤◌, ltb, length, get_or}
+use Rattle.std.specs.Prelude.{◌≡◌, Option, Some, None, cond, List, [], ◌∷◌, ◌++◌, map, ℕ, zero, suc, ◌+◌, ◌-◌, ◌^◌, ◌/◌, ◌%◌, ◌<◌, ◌≤◌, ltb, length, get_or}
 use Rattle.theory.specs.Gate.{gate}
 use Rattle.theory.specs.Move.{digit, Prefers}
 use Rattle.graph.specs.Columns.{at}
@@ -57,9 +59,15 @@ pub record RightProgram (cells k : ℕ) (P : Program) : Type 0 where
   pub selectors : (i : ℕ) → i < cells → at P.kind i ≡ 10 → at P.first (suc i) ≡ at P.first i + 3
   pub in_rows : (i : ℕ) → i < cells → at P.first (suc i) ≤ length P.operand
   pub earlier : (i j : ℕ) → i < cells → at P.first i ≤ j → j < at P.first (suc i)
-      → (at P.operand j < k) ⊎ ((32 ≤ at P.operand j) × (at P.operand j < 32 + i))
+      → (at P.operand j < 32 → at P.operand j < k) × (32 ≤ at P.operand j → at P.operand j < 32 + i)
 
 -- Row e is at the places from begin(e) up to begin(e + 1).
+abbrev pub rows_of : List ℕ → ℕ
+rows_of begin = length begin - 1
+
+abbrev pub total_of : List ℕ → ℕ
+total_of begin = at begin (rows_of begin)
+
 pub record Owes (cells : ℕ) (due begin : List ℕ) (edges : ℕ) : Type 0 where
   pub begin_rows : edges < length begin
   pub due_rows : at begin edges ≤ length due

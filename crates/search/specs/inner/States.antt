@@ -1,10 +1,7 @@
 -- What the functions of the search promise each other. Signals are what each operand shows: the chosen bit x at x, the value of cell i at 32 + i.
 --   next_after c b      the first choice above c that differs from it in a bit from place b up
 --   ChoiceShown k c sig  the first k signals are the bits of the choice c
---   Evaluator           a program made ready: its gates' truth words, and its operands
---   evaluator_of        these columns together; program_in is the program, once the kinds of its gates are known
 --   Truthful            each cell has a truth word of its gate
---   Executable          a right program made ready
 --   Valued c p sig      the signals are the bits of c and the values of the cells below p
 --   CanEvaluate         what `evaluate` asks: the cells below `start` are evaluated, under some choice
 --   GoesOn              evaluation goes on from p to q
@@ -16,42 +13,22 @@
 --   Better              the better of the best list so far and another: neither is preferred to it
 --   Plan                what the search is given: a right program whose cells are ordered by level, and what is due of them in rows
 --   Fresh               its signals: room for them, and every chosen bit 0
---   cells_of             how many cells there are: the last level ends with them
---   Searchable          what can be searched: a right program, levelled, what is due of it, and what fillings ask for
---   RowsPlanned         what `plan` does: that plan, and the rows hold what is due
 use Rattle.std.specs.Prelude.{◌≡◌, Option, Some, None, ◌⊎◌, List, ℕ, suc, ◌+◌, ◌-◌, ◌*◌, ◌^◌, ◌/◌, ◌%◌, ◌<◌, ◌≤◌, length}
 use Rattle.theory.specs.Move.{digit, Prefers}
 use Rattle.graph.specs.Columns.{at}
 use Rattle.gates.specs.inner.Gates.{Reckons}
-use Rattle.search.specs.declared.Size.{Size}
 use Rattle.search.specs.declared.choices.Extent.{Extent}
 use Rattle.search.specs.declared.choices.Turn.{Turn}
-use Rattle.search.specs.inner.Program.{Program, program_of, RightProgram, Owes, asked, Fillable, Levelled, value_at}
-use Rattle.search.specs.inner.Rows.{Level, Rows, SameDues}
+use Rattle.search.specs.inner.Program.{Program, RightProgram, asked, Levelled, value_at}
+use Rattle.search.specs.inner.Rows.{Level, Rows}
 
 -- ── Cells ───────────────────────────────────────────────────────────────────────────────────
 
 abbrev pub ChoiceShown : ℕ → ℕ → List ℕ → Type 0
 ChoiceShown k c sig = (x : ℕ) → x < k → at sig x ≡ digit k c x
 
-pub record Evaluator : Type 0 where
-  pub truth : List ℕ
-  pub first : List ℕ
-  pub operand : List ℕ
-
-abbrev pub evaluator_of : List ℕ → List ℕ → List ℕ → Evaluator
-evaluator_of truth first operand = record { truth = truth; first = first; operand = operand }
-
-abbrev pub program_in : Evaluator → List ℕ → Program
-program_in E kind = program_of kind E.first E.operand
-
-abbrev pub Truthful : ℕ → List ℕ → List ℕ → List ℕ → Type 0
-Truthful cells kind first truth = (i : ℕ) → i < cells → Reckons (at kind i) (at first (suc i) - at first i) (at truth i)
-
-pub record Executable (cells k : ℕ) (kind : List ℕ) (E : Evaluator) : Type 0 where
-  pub program : RightProgram cells k (program_in E kind)
-  pub truth_rows : cells ≤ length E.truth
-  pub truths : Truthful cells kind E.first E.truth
+abbrev pub Truthful : List ℕ → List ℕ → List ℕ → Type 0
+Truthful kind first truth = (i : ℕ) → i < length kind → Reckons (at kind i) (at first (suc i) - at first i) (at truth i)
 
 pub record Valued (cells k : ℕ) (P : Program) (c p : ℕ) (sig : List ℕ) : Type 0 where
   pub size : 32 + cells ≤ length sig
@@ -59,24 +36,19 @@ pub record Valued (cells k : ℕ) (P : Program) (c p : ℕ) (sig : List ℕ) : T
   pub bits : ChoiceShown k c sig
   pub values : (i : ℕ) → i < p → at sig (32 + i) ≡ value_at P k c i
 
-pub record CanEvaluate (E : Evaluator) (start end : ℕ) (sig : List ℕ) : Type 0 where
-  pub cells : ℕ
-  pub k : ℕ
+pub record CanEvaluate (k : ℕ) (P : Program) (start end : ℕ) (sig : List ℕ) : Type 0 where
   pub choice : ℕ
-  pub kind : List ℕ
-  pub ready : Executable cells k kind E
-  pub valued : Valued cells k (program_in E kind) choice start sig
-  pub within : end ≤ cells
+  pub valued : Valued (length P.kind) k P choice start sig
+  pub within : end ≤ length P.kind
 
--- Whatever right program this is, and whatever choice: if the cells below p are evaluated, those below q are in the signals after.
-abbrev pub GoesOn : Evaluator → ℕ → ℕ → List ℕ → ℕ → List ℕ → Type 0
-GoesOn E end p old q sig = (cells k c : ℕ) (kind : List ℕ) → Executable cells k kind E → end ≤ cells
-    → Valued cells k (program_in E kind) c p old → Valued cells k (program_in E kind) c q sig
+-- Whatever choice this is: if the cells below p are evaluated under it, those below q are in the signals after.
+abbrev pub GoesOn : ℕ → Program → ℕ → List ℕ → ℕ → List ℕ → Type 0
+GoesOn k P p old q sig = (c : ℕ) → Valued (length P.kind) k P c p old → Valued (length P.kind) k P c q sig
 
-pub record EvaluatedTo (E : Evaluator) (start end : ℕ) (old sig : List ℕ) (r : ℕ) : Type 0 where
+pub record EvaluatedTo (k : ℕ) (P : Program) (start end : ℕ) (old sig : List ℕ) (r : ℕ) : Type 0 where
   pub after : start ≤ r
   pub reached : end ≤ r
-  pub carried : GoesOn E end start old r sig
+  pub carried : GoesOn k P start old r sig
 
 -- ── Choices ─────────────────────────────────────────────────────────────────────────────────
 
@@ -118,35 +90,19 @@ pub record Better (best : Option ℕ) (list r : ℕ) : Type 0 where
 
 -- ── The search ──────────────────────────────────────────────────────────────────────────────
 
-pub record Plan (e : Extent) (P : Program) (level row left : List ℕ) : Type 0 where
-  pub limit : e.limit ≡ 2 ^ e.bits
-  pub program : RightProgram e.cells e.bits P
-  pub levelled : Levelled e.cells e.bits P e.levels
-  pub level_rows : e.cells ≤ length level
-  pub level_of : (i : ℕ) → i < e.cells → Level e.levels (suc e.bits) i (at level i)
+pub record Plan (k : ℕ) (e : Extent) (P : Program) (level row left : List ℕ) : Type 0 where
+  pub limit : e.limit ≡ 2 ^ k
+  pub program : RightProgram (length P.kind) k P
+  pub levelled : Levelled (length P.kind) k P e.levels
+  pub level_rows : length P.kind ≤ length level
+  pub level_of : (i : ℕ) → i < length P.kind → Level e.levels (suc k) i (at level i)
   pub row_rows : e.dues ≤ length row
   pub left_rows : e.dues ≤ length left
   pub few_dues : e.dues ≤ 24576
-  pub rows_rows : suc e.bits < length e.rows
-  pub whole : at e.rows (suc e.bits) ≡ e.dues
-  pub cell : (d : ℕ) → d < e.dues → at row d / 2 < e.cells
-  pub in_rows : Rows (suc e.bits) level row left e.rows
+  pub rows_rows : suc k < length e.rows
+  pub whole : at e.rows (suc k) ≡ e.dues
+  pub cell : (d : ℕ) → d < e.dues → at row d / 2 < length P.kind
+  pub in_rows : Rows (suc k) level row left e.rows
 
 abbrev pub Fresh : ℕ → List ℕ → Type 0
 Fresh cells sig = (32 + cells ≤ length sig) × ((x : ℕ) → x < 32 → at sig x ≡ 0)
-
-abbrev pub cells_of : Size → ℕ
-cells_of s = at s.levels (suc s.bits)
-
-pub record Searchable (s : Size) (P : Program) (due begin : List ℕ) (edges : ℕ) (fill : List (Option ℕ)) : Type 0 where
-  pub program : RightProgram (cells_of s) s.bits P
-  pub levelled : Levelled (cells_of s) s.bits P s.levels
-  pub owes : Owes (cells_of s) due begin edges
-  pub fillable : Fillable (cells_of s) s.bits fill
-
--- Whatever right program this is.
-pub record RowsPlanned (s : Size) (due begin : List ℕ) (edges : ℕ) (level row left : List ℕ) (e : Extent) : Type 0 where
-  pub bits : e.bits ≡ s.bits
-  pub cells : e.cells ≡ cells_of s
-  pub plan : (P : Program) → RightProgram (cells_of s) s.bits P → Levelled (cells_of s) s.bits P s.levels → Plan e P level row left
-  pub same : SameDues due (at begin edges) row e.dues
