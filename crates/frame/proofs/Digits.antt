@@ -5,7 +5,7 @@
 --   char_small, digit_most       a digit is a byte; a value is at most 16
 --   Entered d table              the table of the digits below d; entered_none, entered_more, entered_all
 --   digits a b, digits_true      both are digits
---   byte_good, byte_digits, byte_none    a byte's value where both are digits; there is one only there
+--   byte_good, byte_bad, byte_digits, byte_none    a byte's value where both are digits; there is one only there
 --   byte_hex, byte_written       a byte is written with the digits that it is read from, and read from those that it is written with
 use mathlib.Core.Path.{◌≡◌, refl, ap, sym, ◌∙◌}
 use mathlib.Core.Bool.{Bool, true, false, cond}
@@ -125,6 +125,14 @@ module _ (a b : ℕ) where
   pub byte_good : digit_of a < 16 → digit_of b < 16 → byte_of a b ≡ Some (digit_of a * 16 + digit_of b)
   unfolding byte_of
   byte_good h k = rw (lt-ltb (digit_of a) 16 h, lt-ltb (digit_of b) 16 k)
+
+  pub byte_bad : (digit_of a < 16 → digit_of b < 16 → ⊥) → byte_of a b ≡ None
+  unfolding byte_of
+  byte_bad h = go (digits a b) refl
+    where
+      go : (t : Bool) → digits a b ≡ t → cond t (Some (digit_of a * 16 + digit_of b)) None ≡ None
+      go true e = let d = digits_true (digit_of a) (digit_of b) e in absurd (h d.0 d.1)
+      go false e = refl
 
   -- There is a byte only where both are digits.
   pub byte_digits : (x : ℕ) → byte_of a b ≡ Some x → (digits a b ≡ true) × (x ≡ digit_of a * 16 + digit_of b)

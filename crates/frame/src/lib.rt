@@ -8,14 +8,20 @@ ghost use Rattle.frame.specs.Frame.{line_at, char_of, hex_of, line_of, placed};
 ghost use Rattle.frame.specs.inner.Decoded.{Digits, byte_of, decoded, framed};
 
 // The byte that ends a line.
-const LINE_FEED: u8 = 10;
+const LINE_FEED: u8 = b'\n';
+
+// The digits of the values below 16.
+const DIGITS: [u8; 16] = *b"0123456789ABCDEF";
+
+// What stands for the value of a byte that is no digit: above each digit's.
+const NO_DIGIT: u8 = 16;
 
 // The digit of a value below 16.
 fn char_of(d: u8) -> u8
     requires { d < 16 }
     ensures { result ≡ char_of d }
 {
-    if d < 10 { d + 48 } else { d + 55 }
+    DIGITS[d as usize]
 }
 
 // Whether the digits of n bytes and a line feed fit into so much room.
@@ -25,8 +31,9 @@ fn has_room(room: usize, n: usize) -> bool
     n < room.div_ceil(2)
 }
 
-// Each byte's value as a hex digit, 0-9 A-F, and 16 for any other byte. It is made once for many lines, so that a digit is looked up.
-// Kept: 16 in place of None, since it is what specs/Frame gives such a byte, and the ghost field is one equation for all bytes.
+// Each byte's value as a hex digit, 0-9 A-F. It is made once for many lines, so that a digit is looked up.
+// Kept: `NO_DIGIT` in place of None, and a table in place of a match on the byte: both were tried. With a table of Options the largest text takes 8 in 100
+// longer to read and a small one 2 in 100, with a match 55 and 5 in 100; retiming small texts, which reads them, is over its bar (1.5 of Rust) as it is.
 #[derive(Clone, Copy)]
 pub struct DigitTable {
     values: [u8; 256],
@@ -37,7 +44,7 @@ impl DigitTable {
     pub fn new() -> DigitTable
         ensures { Digits result.values }
     {
-        let mut values = [16u8; 256];
+        let mut values = [NO_DIGIT; 256];
         for d in 0..16u8 {
             values[char_of(d) as usize] = d;
         }
@@ -48,12 +55,13 @@ impl DigitTable {
     fn byte(&self, high: u8, low: u8) -> Option<u8>
         ensures { result ≡ byte_of high low }
     {
-        let h = self.values[high as usize];
-        let l = self.values[low as usize];
-        if 16 <= h || 16 <= l {
-            return None;
+        let high = self.values[high as usize];
+        let low = self.values[low as usize];
+        if high < NO_DIGIT && low < NO_DIGIT {
+            Some(high * 16 + low)
+        } else {
+            None
         }
-        Some(h * 16 + l)
     }
 
     // The line of N bytes at `at`, where there is room for one.

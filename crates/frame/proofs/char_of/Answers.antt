@@ -1,12 +1,9 @@
--- `frame::char_of` meets its contract.
-use borrow.Author.Tests.{lt-ltb, le-ltb}
+-- `frame::char_of` meets its contract: the digits stand in the order of their values.
+use Rattle.std.proofs.Common.{arith}
+use Rattle.std.proofs.lemmas.List.FromFn.{get_or-map-range_with_len}
 use Rattle.frame.specs.Frame.{char_of}
 use Rattle.frame.proofs.char_of.Goals as goal
 
-pub returns-then-d-lt10 : goal.returns-then-d-lt10
+pub returns : goal.returns
 unfolding char_of
-returns-then-d-lt10 c = rw (lt-ltb _ 10 c.if-d-lt10.true)
-
-pub returns-else-d-lt10 : goal.returns-else-d-lt10
-unfolding char_of
-returns-else-d-lt10 c = rw (le-ltb _ 10 c.if-d-lt10.false)
+returns c = get_or-map-range_with_len char_of 0 16 c.args.d c.args.d 0 (omega arith) (omega arith)
