@@ -6,7 +6,7 @@
 use Prim.Native.Nat.{ℕ, zero, suc, ◌+◌, ◌-◌, ◌*◌, ◌%◌, ◌<◌, ◌≤◌}
 use native.Mathlib.Omega.{arith}
 use native.Mathlib.Decide.{ℕ_discrete, dec_lt}
-use mathlib.Core.Path.{◌≡◌, sym, ap, ◌∙◌, subst}
+use mathlib.Core.Path.{◌≡◌, refl, sym, ap, ◌∙◌, subst}
 use mathlib.Core.List.{List, map}
 use lib.ListN.{length, set, take, length-map}
 use Rattle.std.proofs.lemmas.List.{take-map, drop-map}
@@ -14,7 +14,9 @@ use lib.Seq.{get_or-set_same, get_or-set_other}
 use Rattle.theory.specs.Clock.{seen}
 use Rattle.theory.specs.Gate.{gate}
 use Rattle.theory.proofs.clocks.Gate.{gate_bit}
+use Rattle.std.specs.Prelude.{Option, Some, None}
 use Rattle.graph.specs.Columns.{at}
+use Rattle.graph.specs.inner.Sort.{Stands, place_in}
 use Rattle.graph.proofs.Parts.{map_at}
 use Rattle.gates.specs.inner.Gates.{part}
 use Rattle.netlist.specs.declared.Netlist.{Netlist}
@@ -31,14 +33,25 @@ use Rattle.starts.proofs.Held.{asked_source, shows, Held, held_put, held_on, nod
 use Rattle.starts.proofs.Turned.{turned_edge, row_ahead}
 
 module _ (net : Netlist) (lab : List ℕ) (ok : Steppable net) (m : Labelled net lab) (ins first : List ℕ) (en : Entering net ins first) (s : ℕ) (late : 32 ≤ s) (even : s % 32 ≡ 0)
-    (list : List ℕ) (n : ℕ) (w : Listed net lab s list n) (near : (i : ℕ) → i < n → s + at lab (at list i) < 16384) (p : Leading net.from net.to net.count net.edges list n)
-    (slots : List ℕ) (rows : net.edges ≤ length ins) (size : net.edges ≤ length slots) (right : SlotsOf list n first ins net.from net.count net.start s slots)
-    (edge_rows : (e : ℕ) → e < net.edges → EdgeRows net.from net.count net.start e) where
+    (list : List ℕ) (w : Listed net lab s list) (near : (i : ℕ) → i < length list → s + at lab (at list i) < 16384) (p : Leading net.from net.to net.count net.edges list)
+    (slots : List ℕ) (rows : net.edges ≤ length ins) (size : net.edges ≤ length slots) (right : SlotsOf list (length list) first ins net.from net.count net.start s slots)
+    (edge_rows : (e : ℕ) → e < net.edges → EdgeRows net.from net.count e) where
+  -- The last place of a node in the list.
+  abbrev last : ℕ → Option ℕ
+  last v = place_in p.place v
+
+  has_last : (v : ℕ) → Stands list (length list) v → (q : ℕ) × (last v ≡ Some q)
+  has_last v x = go (last v) refl
+    where
+      go : (o : Option ℕ) → last v ≡ o → (q : ℕ) × (last v ≡ Some q)
+      go None e = absurd (p.places.found x.place x.within (ap last x.holds ∙ e))
+      go (Some q) e = (q, e)
+
   -- The nodes whose last place is one of the first i have their 32 values.
   abbrev Passed : ℕ → List ℕ → Type 0
-  Passed i ring = (v j : ℕ) → v < net.nodes → 0 < at p.place v → at p.place v ≤ i → j < 32 → AskedAt lab (s + j) v → at ring (row (s + j) + v) ≡ quietly net v (s + j)
+  Passed i ring = (v q j : ℕ) → v < net.nodes → last v ≡ Some q → q < i → j < 32 → AskedAt lab (s + j) v → at ring (row (s + j) + v) ≡ quietly net v (s + j)
 
-  edge_right : (ring : List ℕ) (i e j : ℕ) → Held net lab s ring → Passed i ring → e < net.edges → at p.place (at net.to e) ≡ suc i → j < 32 → AskedAt lab (s + j) (at net.to e)
+  edge_right : (ring : List ℕ) (i e j : ℕ) → Held net lab s ring → Passed i ring → e < net.edges → last (at net.to e) ≡ Some i → j < 32 → AskedAt lab (s + j) (at net.to e)
       → at ring (edge_slot net.from net.count net.start (s + j) e) ≡ seen (graph_of net) (regs_of net) (quietly net) e (s + j)
   edge_right ring i e j held passed l q h a =
       shows net ring held.zeroth held.one (s + j) e (λ t r. go t r (asked_source net lab m e (s + j) t l a r) (dec_lt t s))
@@ -51,11 +64,11 @@ module _ (net : Netlist) (lab : List ℕ) (ok : Steppable net) (m : Labelled net
       go t r b (no z) =
           let x = w.every u (from_node net lab m e l) (omega arith) in
           let y : s + (t - s) ≡ t = omega arith in
-          let k = p.leads e l (omega arith) (omega arith) in
+          let k = has_last u x in
           subst (λ c. at ring (row c + u) ≡ quietly net u c) y
-          (passed u (t - s) (from_node net lab m e l) (omega (arith, p.places.past x.place x.within, ap (at p.place) x.holds)) (omega arith) (omega arith) (subst (λ c. AskedAt lab c u) (sym y) b))
+          (passed u k.0 (t - s) (from_node net lab m e l) k.1 (p.leads e k.0 i l k.1 q (omega arith)) (omega arith) (subst (λ c. AskedAt lab c u) (sym y) b))
 
-  module _ (i : ℕ) (h : i < n) where
+  module _ (i : ℕ) (h : i < length list) where
     abbrev v : ℕ
     v = at list i
 
@@ -81,13 +94,13 @@ module _ (net : Netlist) (lab : List ℕ) (ok : Steppable net) (m : Labelled net
 
     -- Its first j values are there, if this is its last place.
     abbrev Begun : ℕ → List ℕ → Type 0
-    Begun j ring = (k : ℕ) → k < j → at p.place v ≡ suc i → AskedAt lab (s + k) v → at ring (row (s + k) + v) ≡ quietly net v (s + k)
+    Begun j ring = (k : ℕ) → k < j → last v ≡ Some i → AskedAt lab (s + k) v → at ring (row (s + k) + v) ≡ quietly net v (s + k)
 
     one_more : (ring : List ℕ) (j : ℕ) → j < 32 → Held net lab s ring → Passed i ring → Begun j ring
         → let new = set ring (row (s + j) + v) (gate (at net.kind v) (saw j ring)) in Held net lab s new × Passed i new × Begun (suc j) new
     one_more ring j l held passed begun = (
       held_put net lab m s ring held (s + j) v x (omega arith) (omega arith) low (omega (arith, near i h)) (gate_bit (at net.kind v) (saw j ring)),
-      λ u k o a b c d. get_or-set_other ring here (row (s + k) + u) x 0 (beside u k o b) ∙ passed u k o a b c d,
+      λ u y k o a b c d. get_or-set_other ring here (row (s + k) + u) x 0 (beside u y k o a b) ∙ passed u y k o a b c d,
       λ k a q b. go k a q b (ℕ_discrete k j),
     )
       where
@@ -97,16 +110,18 @@ module _ (net : Netlist) (lab : List ℕ) (ok : Steppable net) (m : Labelled net
         x : ℕ
         x = gate (at net.kind v) (saw j ring)
 
-        beside : (u k : ℕ) → u < net.nodes → at p.place u ≤ i → ¬ (row (s + k) + u ≡ here)
-        beside u k o b q = omega (arith, ap (at p.place) (apart (s + k) (s + j) u v (omega (arith, low_nodes net lab m)) low q).1, p.places.past i h)
+        beside : (u y k : ℕ) → u < net.nodes → last u ≡ Some y → y < i → ¬ (row (s + k) + u ≡ here)
+        beside u y k o a b q =
+            let z = (apart (s + k) (s + j) u v (omega (arith, low_nodes net lab m)) low q).1 in
+            omega (arith, p.places.last i y h (ap last (sym z) ∙ a))
 
-        go : (k : ℕ) → k < suc j → at p.place v ≡ suc i → AskedAt lab (s + k) v → Dec (k ≡ j) → at (set ring here x) (row (s + k) + v) ≡ quietly net v (s + k)
+        go : (k : ℕ) → k < suc j → last v ≡ Some i → AskedAt lab (s + k) v → Dec (k ≡ j) → at (set ring here x) (row (s + k) + v) ≡ quietly net v (s + k)
         go k a q b (yes z) =
             subst (λ t. at (set ring here x) (row (s + t) + v) ≡ quietly net v (s + t)) (sym z)
             (get_or-set_same ring here x 0 (let y : here < length ring = omega (arith, low, held.size) in y)
             ∙ ap (λ l. gate (at net.kind v) (map (at ring) l)) (sym (take-map (turned j) _ _) ∙ ap (take (at first (suc v) - at first v)) (sym (drop-map (turned j) (at first v) slots)))
             ∙ node_right net lab ok m ins first en (map (turned j) slots) ring rows (let y = length-map slots (turned j) in omega arith) (s + j) v (w.nodes_only i h) (omega arith) (later j)
-            (λ e k r. edge_right ring i e j held passed k (ap (at p.place) r ∙ q) l (omega (arith, ap (at lab) r))))
+            (λ e k r. edge_right ring i e j held passed k (ap last r ∙ q) l (omega (arith, ap (at lab) r))))
         go k a q b (no z) = get_or-set_other ring here (row (s + k) + v) x 0 (let y : ¬ (row (s + k) + v ≡ here) = λ r. omega (arith, row_ahead s k even (omega arith), row_ahead s j even l) in y) ∙ begun k (omega arith) q b
 
     gate_more : (ring : List ℕ) → Held net lab s ring → Passed i ring → (j : ℕ) → j ≤ 32 → Held net lab s (after j ring) × Passed i (after j ring) × Begun j (after j ring)
@@ -122,31 +137,32 @@ module _ (net : Netlist) (lab : List ℕ) (ok : Steppable net) (m : Labelled net
   abbrev block : ℕ → List ℕ → List ℕ
   block i ring = all_ahead net.kind list first slots (row s) i ring
 
-  block_all : (ring : List ℕ) → Held net lab s ring → (i : ℕ) → i ≤ n → Held net lab s (block i ring) × Passed i (block i ring)
+  block_all : (ring : List ℕ) → Held net lab s ring → (i : ℕ) → i ≤ length list → Held net lab s (block i ring) × Passed i (block i ring)
   unfolding all_ahead
-  block_all ring held zero h = (held, λ v j o a b. absurd (let z : ⊥ = omega arith in z))
+  block_all ring held zero h = (held, λ v q j o a b. absurd (let z : ⊥ = omega arith in z))
   block_all ring held (suc i) h =
       let b = block_all ring held i (omega arith) in
       let r = gate_more i (omega arith) (block i ring) b.0 b.1 32 (omega arith) in
-      (r.0, λ u j o a l c d. go u j o a l c d r.1 r.2 (ℕ_discrete (at p.place u) (suc i)))
+      (r.0, λ u q j o a l c d. go u q j o a l c d r.1 r.2 (ℕ_discrete q i))
     where
-      go : (u j : ℕ) → u < net.nodes → 0 < at p.place u → at p.place u ≤ suc i → j < 32 → AskedAt lab (s + j) u → Passed i (block (suc i) ring) → Begun i (omega arith) 32 (block (suc i) ring)
-          → Dec (at p.place u ≡ suc i) → at (block (suc i) ring) (row (s + j) + u) ≡ quietly net u (s + j)
-      go u j o a l c d passed begun (no z) = passed u j o a (omega arith) c d
-      go u j o a l c d passed begun (yes z) =
-          let k = (p.places.holds u i z).1 in
-          subst (λ x. at (block (suc i) ring) (row (s + j) + x) ≡ quietly net x (s + j)) k (begun j c (ap (at p.place) k ∙ z) (subst (AskedAt lab (s + j)) (sym k) d))
+      go : (u q j : ℕ) → u < net.nodes → last u ≡ Some q → q < suc i → j < 32 → AskedAt lab (s + j) u → Passed i (block (suc i) ring) → Begun i (omega arith) 32 (block (suc i) ring)
+          → Dec (q ≡ i) → at (block (suc i) ring) (row (s + j) + u) ≡ quietly net u (s + j)
+      go u q j o a l c d passed begun (no z) = passed u q j o a (omega arith) c d
+      go u q j o a l c d passed begun (yes z) =
+          let e : last u ≡ Some i = a ∙ ap Some z in
+          let k = (p.places.holds u i e).1 in
+          subst (λ x. at (block (suc i) ring) (row (s + j) + x) ≡ quietly net x (s + j)) k (begun j c (ap last k ∙ e) (subst (AskedAt lab (s + j)) (sym k) d))
 
-  pub held_block : (ring new : List ℕ) → Held net lab s ring → new ≡ all_ahead net.kind list first slots (row s) n ring → Held net lab (s + 32) new
+  pub held_block : (ring new : List ℕ) → Held net lab s ring → new ≡ all_ahead net.kind list first slots (row s) (length list) ring → Held net lab (s + 32) new
   held_block ring new held q = held_on net lab m s new r.0 32 go
     where
-      r : Held net lab s new × Passed n new
-      r = subst (λ x. Held net lab s x × Passed n x) (sym q) (block_all ring held n (omega arith))
+      r : Held net lab s new × Passed (length list) new
+      r = subst (λ x. Held net lab s x × Passed (length list) x) (sym q) (block_all ring held (length list) (omega arith))
 
       go : (v t : ℕ) → v < net.nodes → s ≤ t → t < s + 32 → AskedAt lab t v → at new (row t + v) ≡ quietly net v t
       go v t h a b c =
           let x = w.every v h (omega arith) in
           let y : s + (t - s) ≡ t = omega arith in
-          let k : 0 < at p.place v = omega (arith, p.places.past x.place x.within, ap (at p.place) x.holds) in
+          let k = has_last v x in
           subst (λ i. at new (row i + v) ≡ quietly net v i) y
-          (r.1 v (t - s) h k (omega (arith, (p.places.holds v (at p.place v - 1) (omega arith)).0)) (omega arith) (subst (λ i. AskedAt lab i v) (sym y) c))
+          (r.1 v k.0 (t - s) h k.1 (p.places.holds v k.0 k.1).0 (omega arith) (subst (λ i. AskedAt lab i v) (sym y) c))

@@ -25,15 +25,15 @@ use Rattle.simulate.proofs.Seen.{Entering}
 use Rattle.starts.proofs.Listed.{Listed}
 use Rattle.starts.proofs.Held.{asked_source, shows, Held, held_put, held_on, node_right}
 
-module _ (net : Netlist) (lab : List ℕ) (ok : Steppable net) (m : Labelled net lab) (ins first : List ℕ) (en : Entering net ins first) (s : ℕ) (list : List ℕ) (n : ℕ) (w : Listed net lab s list n)
-    (near : (i : ℕ) → i < n → s / 32 * 32 + at lab (at list i) < 16384)
-    (slots : List ℕ) (rows : net.edges ≤ length ins) (size : net.edges ≤ length slots) (right : SlotsOf list n first ins net.from net.count net.start s slots) where
+module _ (net : Netlist) (lab : List ℕ) (ok : Steppable net) (m : Labelled net lab) (ins first : List ℕ) (en : Entering net ins first) (s : ℕ) (list : List ℕ) (w : Listed net lab s list)
+    (near : (i : ℕ) → i < length list → s / 32 * 32 + at lab (at list i) < 16384)
+    (slots : List ℕ) (rows : net.edges ≤ length ins) (size : net.edges ≤ length slots) (right : SlotsOf list (length list) first ins net.from net.count net.start s slots) where
   -- The first i nodes of the list have their values of clock s.
   abbrev Done : ℕ → List ℕ → Type 0
   Done i ring = (j : ℕ) → j < i → AskedAt lab s (at list j) → at ring (row s + at list j) ≡ quietly net (at list j) s
 
   -- The source of an edge without a register is an earlier node of the list; another edge shows one of the last 32 values, or a start value.
-  edge_right : (ring : List ℕ) (i e : ℕ) → Held net lab s ring → Done i ring → i < n → e < net.edges → at net.to e ≡ at list i → AskedAt lab s (at list i)
+  edge_right : (ring : List ℕ) (i e : ℕ) → Held net lab s ring → Done i ring → i < length list → e < net.edges → at net.to e ≡ at list i → AskedAt lab s (at list i)
       → at ring (edge_slot net.from net.count net.start s e) ≡ seen (graph_of net) (regs_of net) (quietly net) e s
   edge_right ring i e held done h l q a =
       shows net ring held.zeroth held.one s e
@@ -54,7 +54,7 @@ module _ (net : Netlist) (lab : List ℕ) (ok : Steppable net) (m : Labelled net
   abbrev given : List ℕ → ℕ → ℕ
   given ring v = gate (at net.kind v) (map (at ring) (part slots (at first v) (at first (suc v))))
 
-  held_more : (ring : List ℕ) (i : ℕ) → i < n → Held net lab s ring → Done i ring
+  held_more : (ring : List ℕ) (i : ℕ) → i < length list → Held net lab s ring → Done i ring
       → let new = set ring (row s + at list i) (given ring (at list i)) in Held net lab s new × Done (suc i) new
   held_more ring i h held done = (
     held_put net lab m s ring held s v x (omega arith) (omega arith) low (near i h) (gate_bit (at net.kind v) (map (at ring) (part slots (at first v) (at first (suc v))))),
@@ -83,17 +83,17 @@ module _ (net : Netlist) (lab : List ℕ) (ok : Steppable net) (m : Labelled net
       last j k a (no z) (no d) =
           get_or-set_other ring here (row s + at list j) x 0 (let y : ¬ (row s + at list j ≡ here) = λ q. z (omega arith) in y) ∙ done j (omega arith) a
 
-  held_all : (ring : List ℕ) → Held net lab s ring → (i : ℕ) → i ≤ n
+  held_all : (ring : List ℕ) → Held net lab s ring → (i : ℕ) → i ≤ length list
       → let new = evaluated net.kind list first slots (row s) i ring in Held net lab s new × Done i new
   unfolding evaluated
   held_all ring held zero h = (held, λ j k. absurd (let z : ⊥ = omega arith in z))
   held_all ring held (suc i) h = let b = held_all ring held i (omega arith) in held_more (evaluated net.kind list first slots (row s) i ring) i (omega arith) b.0 b.1
 
-  pub held_next : (ring new : List ℕ) → Held net lab s ring → new ≡ evaluated net.kind list first slots (row s) n ring → Held net lab (s + 1) new
+  pub held_next : (ring new : List ℕ) → Held net lab s ring → new ≡ evaluated net.kind list first slots (row s) (length list) ring → Held net lab (s + 1) new
   held_next ring new held q = held_on net lab m s new r.0 1 (λ v t h a b c. go v t h c (let y : s ≡ t = omega arith in y))
     where
-      r : Held net lab s new × Done n new
-      r = subst (λ x. Held net lab s x × Done n x) (sym q) (held_all ring held n (omega arith))
+      r : Held net lab s new × Done (length list) new
+      r = subst (λ x. Held net lab s x × Done (length list) x) (sym q) (held_all ring held (length list) (omega arith))
 
       go : (v t : ℕ) → v < net.nodes → AskedAt lab t v → s ≡ t → at new (row t + v) ≡ quietly net v t
       go v t h a z =

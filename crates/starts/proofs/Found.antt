@@ -70,15 +70,12 @@ module _ (net : Netlist) (lab counts : List ℕ) (m : Moving net lab counts) (e 
           omega (arith, m.counted e h, new_is net lab m.labelled e h (at net.count e + v - at lab u) (omega arith))
 
 -- An edge shows a node behind 32 registers at most.
-pub shown_rows : (net : Netlist) (lab : List ℕ) → Labelled net lab → length net.from ≡ 1024 → length net.count ≡ 1024 → length net.start ≡ 1024
-    → (e : ℕ) → e < net.edges → EdgeRows net.from net.count net.start e
-shown_rows net lab s from count start e h =
-    let few = low_edges net lab s in
-    record {
-      rows = (omega arith, omega arith, omega arith);
-      source = omega (arith, from_node net lab s e h, low_nodes net lab s);
-      width = count_low net s.fit e h;
-    }
+pub shown_rows : (net : Netlist) (lab : List ℕ) → Labelled net lab → (e : ℕ) → e < net.edges → EdgeRows net.from net.count e
+shown_rows net lab s e h = record {
+  low = omega (arith, low_edges net lab s);
+  source = omega (arith, from_node net lab s e h, low_nodes net lab s);
+  width = count_low net s.fit e h;
+}
 
 -- ── The moved netlist ───────────────────────────────────────────────────────────────────────
 

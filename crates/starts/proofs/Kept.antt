@@ -1,44 +1,56 @@
--- The members of a list that have a property, put at its own front.
---   Keeping             of the first i; the others are as they were
---   keeping_none        of none yet
---   keeping_like        of equal lists
---   keeping_hit, keeping_miss    one further: it has the property, or not
-use Prim.Native.Nat.{ℕ, ◌+◌, ◌≤◌, ◌<◌}
+-- The nodes of a list that are asked for at a clock.
+--   asked_at            a node of the list, where it is asked for
+--   asked_picks         as they are picked
+use Prim.Native.Nat.{ℕ, zero, suc, ◌+◌, ◌<◌, ◌≤◌}
 use native.Mathlib.Omega.{arith}
-use mathlib.Core.Path.{◌≡◌, refl, sym, subst, ◌∙◌}
-use mathlib.Core.List.{List}
-use lib.ListN.{length, set, length-set}
-use lib.Seq.{get_or-set_other}
+use native.Mathlib.Numerals.{add-one}
+use native.Mathlib.Decide.{dec_lt}
+use mathlib.Core.Path.{◌≡◌, sym, subst, ◌∙◌}
+use mathlib.Core.Bool.{cond}
+use mathlib.Core.List.{List, [], ◌∷◌, ◌++◌, append-nil, append_assoc}
+use lib.Dec.{ltb}
+use lib.ListN.{length, length-append, set}
+use lib.Seq.{set-append_seam}
+use borrow.Author.Tests.{lt-ltb, le-ltb}
+use Rattle.std.specs.Prelude.{Option, Some, None}
 use Rattle.graph.specs.Columns.{at}
 use Rattle.graph.specs.inner.Lists.{Filtered}
+use Rattle.graph.specs.inner.Picks.{picks}
 use Rattle.graph.proofs.Fills.{filtered_none, filtered_hit, filtered_miss}
+use Rattle.starts.specs.inner.Ring.{AskedAt}
 
-pub record Keeping (P : ℕ → Type 0) (old : List ℕ) (i : ℕ) (new : List ℕ) (r : ℕ) : Type 0 where
-  pub size : length new ≡ length old
-  pub kept : Filtered P old i new r
-  pub rest : (j : ℕ) → i ≤ j → at new j ≡ at old j
+abbrev pub asked_at : List ℕ → ℕ → List ℕ → ℕ → Option ℕ
+asked_at lab s list i = cond (ltb (s + at lab (at list i)) 16384) (Some (at list i)) None
 
-module _ (P : ℕ → Type 0) (old : List ℕ) where
-  pub keeping_none : Keeping P old 0 old 0
-  keeping_none = record { size = refl; kept = filtered_none P old old; rest = λ j h. refl }
+module _ (lab : List ℕ) (s : ℕ) (list : List ℕ) where
+  abbrev Asked : ℕ → Type 0
+  Asked = AskedAt lab s
 
-  pub keeping_like : (i : ℕ) {new new' : List ℕ} {r r' : ℕ} → new ≡ new' → r ≡ r' → Keeping P old i new' r' → Keeping P old i new r
-  keeping_like i p q w = rw (p, q) w
+  abbrev kept : ℕ → List ℕ
+  kept n = picks (asked_at lab s list) n
 
-  module _ (i : ℕ) (new : List ℕ) (r : ℕ) (w : Keeping P old i new r) where
-    here : at new i ≡ at old i
-    here = w.rest i (omega arith)
+  -- A list is as well filtered, whatever stands past its items.
+  filtered_before : (n : ℕ) (past : List ℕ) → Filtered Asked list n (kept n ++ past) (length (kept n))
+  unfolding picks
+  filtered_before zero past = filtered_none Asked list past
+  filtered_before (suc n) past = go (dec_lt (s + at lab (at list n)) 16384) (filtered_before n)
+    where
+      xs : List ℕ
+      xs = kept n
 
-    pub keeping_miss : ¬ P (at new i) → Keeping P old (i + 1) new r
-    keeping_miss n = record {
-      size = w.size;
-      kept = filtered_miss P old i new r w.kept (λ p. n (subst P (sym here) p));
-      rest = λ j h. w.rest j (omega arith);
-    }
+      v : ℕ
+      v = at list n
 
-    pub keeping_hit : P (at new i) → i < length new → Keeping P old (i + 1) (set new r (at new i)) (r + 1)
-    keeping_hit has l = record {
-      size = length-set new r (at new i) ∙ w.size;
-      kept = subst (λ x. Filtered P old (i + 1) (set new r x) (r + 1)) (sym here) (filtered_hit P old i new r w.kept (subst P here has) (omega (arith, w.kept.few)));
-      rest = λ j h. get_or-set_other new r j (at new i) 0 (let z : ¬ (j ≡ r) = λ e. omega (arith, w.kept.few) in z) ∙ w.rest j (omega arith);
-    }
+      -- The item is stored behind the others.
+      stored : set (xs ++ 0 ∷ past) (length xs) v ≡ (xs ++ v ∷ []) ++ past
+      stored = set-append_seam xs 0 past v ∙ sym (append_assoc xs (v ∷ []) past)
+
+      go : Dec (s + at lab (at list n) < 16384) → ((past : List ℕ) → Filtered Asked list n (xs ++ past) (length xs)) → Filtered Asked list (suc n) (kept (suc n) ++ past) (length (kept (suc n)))
+      go (no q) before =
+          rw (le-ltb (s + at lab v) 16384 (omega arith)) (rw add-one at (filtered_miss Asked list n (xs ++ past) (length xs) (before past) (λ z. q z)))
+      go (yes q) before =
+          rw (lt-ltb (s + at lab v) 16384 q, ← stored, length-append xs (v ∷ []))
+          (rw add-one at (filtered_hit Asked list n (xs ++ 0 ∷ past) (length xs) (before (0 ∷ past)) q (omega (arith, length-append xs (0 ∷ past)))))
+
+  pub asked_picks : {n : ℕ} {new : List ℕ} → new ≡ kept n → Filtered Asked list n new (length new)
+  asked_picks {n} e = rw e (subst (λ xs. Filtered Asked list n xs (length (kept n))) (append-nil (kept n)) (filtered_before n []))

@@ -2,6 +2,7 @@
 pub mod Quiet
 -- Where an edge's value stands in the ring.
 pub mod Slots
+pub mod Wired
 -- The members of a list that are kept; the nodes that are evaluated in a clock.
 pub mod Kept
 pub mod Listed

@@ -5,7 +5,6 @@
 --   slot_turn, edge_turn    past the start values, in the next clock a row further
 --   puts_more, puts_end    the slots put at the places of one node, a place at a time
 --   node_more           the slots put node by node
---   slotable_wider      with more room
 use Prim.Native.Nat.{ℕ, suc, ◌+◌, ◌-◌, ◌<◌, ◌≤◌}
 use native.Mathlib.Omega.{arith}
 use native.Mathlib.Numerals.{add-one}
@@ -19,7 +18,7 @@ use borrow.Author.Tests.{lt-ltb, le-ltb}
 use Rattle.graph.specs.Columns.{at, bit}
 use Rattle.netlist.specs.Net.{zeros}
 use Rattle.netlist.proofs.Rows.{zeros_at}
-use Rattle.starts.specs.inner.Ring.{row, NothingYet, slot_of, edge_slot, further, Puts, SlotsOf, EdgeRows, SlotableOf}
+use Rattle.starts.specs.inner.Ring.{row, NothingYet, slot_of, edge_slot, further, Puts, SlotsOf, EdgeRows}
 
 -- Told of any length, so that no list of that length is written out.
 pub empty_is : (n : ℕ) → n ≡ 32770 → NothingYet (set (replicate n 0) 32769 1)
@@ -56,7 +55,7 @@ slot_turn u w word s h l =
     row_turn t = omega arith
 
 -- Past the start values, a row further is the next clock.
-pub edge_turn : (from count start : List ℕ) (e t s : ℕ) → EdgeRows from count start e → 32 ≤ t → t + 1 ≡ s
+pub edge_turn : (from count start : List ℕ) (e t s : ℕ) → EdgeRows from count e → 32 ≤ t → t + 1 ≡ s
     → further (edge_slot from count start t e) ≡ edge_slot from count start s e
 edge_turn from count start e t s r h q =
     slot_turn (at from e) (at count e) (at start e) t (omega (arith, r.width)) r.source ∙ ap (λ x. edge_slot from count start x e) q
@@ -108,9 +107,3 @@ node_more list i first ins from count start s old new p w j h k a b = go (dec_lt
     go (no x) (no y) = p.done k (omega arith) (omega arith)
     go (yes x) y = beside (inl x)
     go (no x) (yes y) = beside (inr y)
-
-pub slotable_wider : (list : List ℕ) (n : ℕ) (first ins from count start : List ℕ) (size wider : ℕ) → size ≤ wider
-    → SlotableOf list n first ins from count start size → SlotableOf list n first ins from count start wider
-slotable_wider list n first ins from count start size wider h w i l =
-    let c = (w i l).1 in
-    ((w i l).0, record { up = c.up; in_slots = omega (arith, c.in_slots); in_ins = c.in_ins; edges = c.edges })

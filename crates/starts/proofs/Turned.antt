@@ -1,12 +1,10 @@
--- Laws of 32 clocks in a row: the slots, the ring, the places in the list.
+-- Laws of 32 clocks in a row: the slots, the ring.
 --   turned_low          slots stay in the ring
 --   turned_edge         past the start values, j rows further is j clocks later
 --   ahead_more, all_next    one clock of a gate more; one gate more
 --   few_inputs          a gate with a truth word has eight inputs at most
 --   Along               after j clocks of a gate: its slots, and the ring
 --   along_start, along_inputs, along_next    before the first; what it sees is in place; one clock more
---   taken_cut, evaluable_front, truths_front    of a longer list, its first gates as a list of their own
---   places_none, places_more    the places of no node yet; one further
 --   strides_some, strides_alone    a clock is taken at least, and 32 at most; just one, where the next is not one that 32 divides
 --   row_ahead           in the 32 clocks from one on that 32 divides, row by row
 use Prim.Native.Nat.{ℕ, zero, suc, ◌+◌, ◌-◌, ◌*◌, ◌^◌, ◌/◌, ◌%◌, ◌<◌, ◌≤◌}
@@ -30,7 +28,7 @@ use Rattle.gates.proofs.Row.{bits_set, evaluable_cut, truths_cut, evaluated_cut,
 use Rattle.netlist.specs.Net.{zeros}
 use Rattle.netlist.proofs.Rows.{zeros_at}
 use Rattle.starts.specs.inner.Ring.{row, edge_slot, EdgeRows, further}
-use Rattle.starts.specs.inner.Ahead.{turned, ahead, all_ahead, Places, Strides, Taken}
+use Rattle.starts.specs.inner.Ahead.{turned, ahead, all_ahead, Strides}
 use Rattle.starts.proofs.Slots.{edge_turn}
 
 turned_low : (j c size : ℕ) → c < size → 32768 ≤ size → turned j c < size
@@ -38,7 +36,7 @@ unfolding turned
 turned_low zero c size h l = h
 turned_low (suc j) c size h l = omega arith
 
-pub turned_edge : (from count start : List ℕ) (e s : ℕ) → EdgeRows from count start e → 32 ≤ s → (j : ℕ) → turned j (edge_slot from count start s e) ≡ edge_slot from count start (s + j) e
+pub turned_edge : (from count start : List ℕ) (e s : ℕ) → EdgeRows from count e → 32 ≤ s → (j : ℕ) → turned j (edge_slot from count start s e) ≡ edge_slot from count start (s + j) e
 unfolding turned
 turned_edge from count start e s r h zero = ap (λ t. edge_slot from count start t e) (let z : s ≡ s + 0 = omega arith in z)
 turned_edge from count start e s r h (suc j) =
@@ -113,70 +111,13 @@ module _ (truth : ℕ) (sees : List ℕ) (place : ℕ) (ring : List ℕ) (rows :
           ∙ sym (ahead_more kind sees place ring j);
     }
 
--- ── The first gates of a longer list ────────────────────────────────────────────────────────
-
-front : (node : List ℕ) (n : ℕ) → part node 0 n ≡ take n node
-front node n = ap (λ m. take m node) (let z : n - 0 ≡ n = omega arith in z)
-
-module _ (kind node first slots : List ℕ) (base : ℕ) (ring : List ℕ) (n : ℕ) (rows : n ≤ length node) where
-  cut_to : (m : ℕ) → m ≤ n → all_ahead kind (part node 0 n) first slots base m ring ≡ all_ahead kind node first slots base m ring
-  unfolding all_ahead
-  cut_to zero h = refl
-  cut_to (suc m) h =
-      ap₂ (λ before v. ahead (at kind v) (part slots (at first v) (at first (suc v))) (base + v) 32 before) (cut_to m (omega arith))
-      (part_at node 0 n m (omega arith) ∙ ap (at node) (let z : 0 + m ≡ m = omega arith in z))
-
-  part_taken : (clocks : ℕ) (new : List ℕ) → Taken kind (part node 0 n) first slots base (length (part node 0 n)) clocks ring new → Taken kind node first slots base n clocks ring new
-  part_taken clocks new (inl (h, q)) = inl (h, q ∙ evaluated_cut kind node first slots base ring n rows)
-  part_taken clocks new (inr (h, q)) = inr (h, q ∙ ap (λ m. all_ahead kind (part node 0 n) first slots base m ring) (cut_length node n rows) ∙ cut_to n (omega arith))
-
-  pub taken_cut : (clocks : ℕ) (new : List ℕ) → Taken kind (take n node) first slots base (length (take n node)) clocks ring new → Taken kind node first slots base n clocks ring new
-  taken_cut clocks new t = part_taken clocks new (subst (λ l. Taken kind l first slots base (length l) clocks ring new) (sym (front node n)) t)
-
-pub evaluable_front : (node truth first list : List ℕ) (n base : ℕ) (sig : List ℕ) → Evaluable node truth first list n base sig → Evaluable (take n node) truth first list (length (take n node)) base sig
-evaluable_front node truth first list n base sig e = subst (λ l. Evaluable l truth first list (length l) base sig) (front node n) (evaluable_cut node truth first list n base sig e)
-
-pub truths_front : (kind node truth first : List ℕ) (n : ℕ) → n ≤ length node → Truths kind node truth first n → Truths kind (take n node) truth first (length (take n node))
-truths_front kind node truth first n h t = subst (λ l. Truths kind l truth first (length l)) (front node n) (truths_cut kind node truth first n h t)
-
--- ── Places in a list ────────────────────────────────────────────────────────────────────────
-
-pub places_none : (list : List ℕ) (n : ℕ) → Places list 0 (replicate n 0)
-unfolding zeros
-places_none list n = record { past = λ i h. absurd (let y : ⊥ = omega arith in y); holds = λ v i q. absurd (let y : ⊥ = omega (arith, zeros_at n v) in y) }
-
-pub places_more : (list : List ℕ) (i : ℕ) (place : List ℕ) → at list i < length place → Places list i place → Places list (i + 1) (set place (at list i) (i + 1))
-places_more list i place h w = record { past = λ k l. go k l (ℕ_discrete (at list k) v) (ℕ_discrete k i); holds = λ u k q. stands u k q (ℕ_discrete u v) }
-  where
-    v : ℕ
-    v = at list i
-
-    new : List ℕ
-    new = set place v (i + 1)
-
-    here : at new v ≡ i + 1
-    here = get_or-set_same place v (i + 1) 0 h
-
-    go : (k : ℕ) → k < i + 1 → Dec (at list k ≡ v) → Dec (k ≡ i) → k < at new (at list k)
-    go k l (yes z) d = subst (λ u. k < at new u) (sym z) (omega (arith, here))
-    go k l (no z) (yes y) = absurd (z (ap (at list) y))
-    go k l (no z) (no y) = omega (arith, get_or-set_other place v (at list k) (i + 1) 0 z, w.past k (omega arith))
-
-    stands : (u k : ℕ) → at new u ≡ suc k → Dec (u ≡ v) → (k < i + 1) × (at list k ≡ u)
-    stands u k q (yes z) =
-        let y : i ≡ k = omega (arith, here, ap (at new) z) in
-        (omega arith, subst (λ x. at list x ≡ u) y (sym z))
-    stands u k q (no z) =
-        let r = w.holds u k (sym (get_or-set_other place v u (i + 1) 0 z) ∙ q) in
-        (omega (arith, r.0), r.1)
-
 -- ── How many clocks ─────────────────────────────────────────────────────────────────────────
 
-module _ {from to count list : List ℕ} {edges n s r : ℕ} where
-  pub strides_some : Strides from to count edges list n s r → (0 < r) × (r ≤ 32)
+module _ {from to count list : List ℕ} {edges s r : ℕ} where
+  pub strides_some : Strides from to count edges list s r → (0 < r) × (r ≤ 32)
   strides_some (inl a) = (omega arith, omega arith)
   strides_some (inr a) = (omega arith, omega arith)
 
-  pub strides_alone : Strides from to count edges list n s r → 0 < (s + r) % 32 → r ≡ 1
+  pub strides_alone : Strides from to count edges list s r → 0 < (s + r) % 32 → r ≡ 1
   strides_alone (inl a) z = a
   strides_alone (inr a) z = absurd (let y : ⊥ = omega (arith, a.0, a.2) in y)

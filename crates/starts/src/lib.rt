@@ -4,6 +4,8 @@
 mod ahead;
 mod nodes;
 mod ring;
+mod shown;
+mod wiring;
 mod words;
 
 pub use words::moved;

@@ -3,24 +3,25 @@
 ghost use Rattle.std.specs.Prelude.{◌≡◌, ℕ, ◌+◌, ◌^◌, ◌≤◌, ◌<◌, length};
 ghost use Rattle.graph.specs.Columns.{at};
 ghost use Rattle.gates.specs.inner.Gates.{AllBits};
-ghost use Rattle.moves.specs.inner.Labels.{lags_of};
+ghost use Rattle.moves.specs.inner.Labels.{lags_of, chosen_at};
 ghost use Rattle.moves.specs.inner.Moving.{Moving};
 ghost use Rattle.moves.specs.inner.Chosen.{EdgeWords, ShortWords};
 ghost use Rattle.moves.specs.Moved.{word_of, moved_net};
-ghost use Rattle.netlist.specs.Net.{with_columns};
 ghost use Rattle.moves.specs.inner.Columns.{Filled, none};
 ghost use Rattle.starts.specs.inner.Starts.{shown_slot, starts_at};
 
 use crate::BIAS;
-use crate::ring::{SLOTS, Shown, ring_of};
-use graph::EDGES;
+use crate::ring::ring_of;
+use crate::shown::{SLOTS, Shown};
+use graph::{EDGES, column};
 use lags::up_of;
-use moves::{bytes_of, chosen_on, put_bit};
+use moves::{Move, bytes_of, chosen_on, put_bit};
 use netlist::Netlist;
 
-// The chosen start values of an edge and how many they are, its new count, and the label of the node that it enters.
+// What an edge shows, its chosen start values and how many they are, its new count, and the label of the node that it enters.
 #[derive(Clone, Copy)]
 struct Filling {
+    edge: Shown,
     word: u32,
     chosen: u32,
     count: u32,
@@ -31,57 +32,62 @@ struct Filling {
     ghost shown: { chosen < count → label ≤ chosen + 16384 },
 }
 
-// The start values of an edge: those in the word, the chosen ones, and then at each clock t below its count what the original shows at clock t − r(v).
-fn filled(to: Filling, edge: Shown, ring: &[u8; SLOTS]) -> u32
-    requires { AllBits ring.now }
-    ensures { (f : ℕ → ℕ) → to.word ≡ word_of f to.chosen → ((t : ℕ) → to.chosen ≤ t → t < to.count → at ring.now (shown_slot edge.from edge.registers edge.start to.label t) ≡ f t) → result ≡ word_of f to.count }
-{
-    let mut new = to.word;
-    for t in to.chosen..to.count {
-        let c = edge.slot(t as usize + BIAS - to.label as usize);
-        new = put_bit(new, t, u32::from(ring[c]));
-    }
-    new
-}
-
-// The new start values, as words: the chosen ones, then those that the original shows.
-fn starts_of(net: &Netlist, lab: &[u32], counts: &[u32], words: &[u32]) -> [u32; EDGES]
-    requires { Moving net.now lab.now counts.now × ShortWords net.now (lags_of lab.now) words.now }
-    ensures { (c : ℕ) → EdgeWords net.now (lags_of lab.now) c words.now → Filled (starts_at net.now lab.now counts.now c) none net.now.edges result }
-{
-    let ring = ring_of(net, lab);
-    let mut new = [0u32; EDGES];
-    for e in 0..net.edges as usize {
-        let label = lab[net.to[e] as usize];
-        let to = Filling {
+impl Filling {
+    // Of edge e.
+    fn of(from: Move<'_>, counts: &[u32], words: &[u32], e: usize) -> Filling
+        requires { Moving from.net.now from.lab.now counts.now × ShortWords from.net.now (lags_of from.lab.now) words.now × (e < from.net.now.edges) }
+        ensures edge { (result.edge.from ≡ at from.entry.net.now.from e) × (result.edge.registers ≡ at from.entry.net.now.count e) × (result.edge.start ≡ at from.entry.net.now.start e) }
+        ensures chosen { (result.word ≡ at words.now e) × (result.chosen ≡ chosen_at from.entry.net.now from.entry.lab.now e) }
+        ensures count { (result.count ≡ at counts.now e) × (result.label ≡ at from.entry.lab.now (at from.entry.net.now.to e)) }
+    {
+        let label = from.lab[from.net.to[e] as usize];
+        Filling {
+            edge: Shown::of(from.net, e),
             word: words[e],
             chosen: chosen_on(counts[e], up_of(label)),
             count: counts[e],
             label,
-        };
-        new[e] = filled(to, Shown::of(net, e), &ring);
+        }
     }
-    new
+
+    // The start values: those in the word, the chosen ones, and then at each clock t below the count what the original shows at clock t − r(v).
+    fn filled(self, ring: &[u8; SLOTS]) -> u32
+        requires { AllBits ring.now }
+        ensures { (f : ℕ → ℕ) → self.word ≡ word_of f self.chosen
+            → ((t : ℕ) → self.chosen ≤ t → t < self.count → at ring.now (shown_slot self.edge.from self.edge.registers self.edge.start self.label t) ≡ f t) → result ≡ word_of f self.count }
+    {
+        let mut new = self.word;
+        for t in self.chosen..self.count {
+            let c = self.edge.slot(t as usize + BIAS - self.label as usize);
+            new = put_bit(new, t, u32::from(ring[c]));
+        }
+        new
+    }
 }
 
-// The netlist with other counts and start values.
-fn with_columns(net: Netlist, count: [u8; EDGES], start: [u32; EDGES]) -> Netlist
-    ensures { result ≡ with_columns net count start }
+// The new start values, as words: the chosen ones, then those that the original shows.
+fn starts_of(from: Move<'_>, counts: &[u32], words: &[u32]) -> [u32; EDGES]
+    requires { Moving from.net.now from.lab.now counts.now × ShortWords from.net.now (lags_of from.lab.now) words.now }
+    ensures { (c : ℕ) → EdgeWords from.entry.net.now (lags_of from.entry.lab.now) c words.now
+        → Filled (starts_at from.entry.net.now from.entry.lab.now counts.now c) none from.entry.net.now.edges result }
 {
-    Netlist {
-        count,
-        start,
-        ..net
-    }
+    let ring = ring_of(from);
+    column(from.net.edges as usize, 0, |e| {
+        Filling::of(from, counts, words, e).filled(&ring)
+    })
 }
 
 // "Moved by lags and a choice, a netlist keeps its head, its nodes and the ends of its edges, and each edge gets its new count and new start values."
 // The choice comes as words: of each edge its chosen values, bit t for clock t.
-pub fn moved(net: Netlist, lab: &[u32], counts: &[u32], words: &[u32]) -> Netlist
-    requires { Moving net lab.now counts.now × ShortWords net (lags_of lab.now) words.now }
-    ensures { (c : ℕ) → EdgeWords net (lags_of lab.now) c words.now → result ≡ moved_net net (lags_of lab.now) c }
+pub fn moved(from: Move<'_>, counts: &[u32], words: &[u32]) -> Netlist
+    requires { Moving from.net.now from.lab.now counts.now × ShortWords from.net.now (lags_of from.lab.now) words.now }
+    ensures { (c : ℕ) → EdgeWords from.entry.net.now (lags_of from.entry.lab.now) c words.now
+        → result ≡ moved_net from.entry.net.now (lags_of from.entry.lab.now) c }
 {
-    let count = bytes_of(counts, net.edges as usize);
-    let start = starts_of(&net, lab, counts, words);
-    with_columns(net, count, start)
+    let net = from.net;
+    Netlist {
+        count: bytes_of(&counts[..net.edges as usize]),
+        start: starts_of(from, counts, words),
+        ..*net
+    }
 }

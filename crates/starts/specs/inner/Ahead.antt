@@ -2,14 +2,14 @@
 --   turned j c          slot c, j rows further
 --   ahead               the ring after j clocks of a gate
 --   all_ahead           the ring after 32 clocks of each of the first n gates of a list, each from those before it
---   Places              the last place of each node in a list, from 1 on, and 0 where it stands nowhere
 --   LeadsOn             each edge between two nodes of the list leads on in it, or has 32 registers
 --   Leading             so for the places in the list
 --   Strides             how many clocks are taken at clock s: one, or 32 from there on
 --   Taken               the ring after one clock of a list, or 32
-use Rattle.std.specs.Prelude.{◌≡◌, ◌⊎◌, List, map, ℕ, zero, suc, ◌+◌, ◌*◌, ◌%◌, ◌<◌, ◌≤◌, set}
+use Rattle.std.specs.Prelude.{◌≡◌, ◌⊎◌, Option, Some, List, map, ℕ, zero, suc, ◌+◌, ◌*◌, ◌%◌, ◌<◌, ◌≤◌, length, set}
 use Rattle.theory.specs.Gate.{gate}
 use Rattle.graph.specs.Columns.{at}
+use Rattle.graph.specs.inner.Sort.{Places, place_in}
 use Rattle.gates.specs.inner.Gates.{part, evaluated}
 use Rattle.starts.specs.inner.Ring.{further}
 
@@ -30,21 +30,18 @@ all_ahead kind node first slots base (suc n) ring =
     let v = at node n in
     ahead (at kind v) (part slots (at first v) (at first (suc v))) (base + v) 32 (all_ahead kind node first slots base n ring)
 
-pub record Places (list : List ℕ) (n : ℕ) (place : List ℕ) : Type 0 where
-  pub past : (i : ℕ) → i < n → i < at place (at list i)
-  pub holds : (v i : ℕ) → at place v ≡ suc i → (i < n) × (at list i ≡ v)
+abbrev pub LeadsOn : List ℕ → List ℕ → List ℕ → ℕ → List (Option ℕ) → Type 0
+LeadsOn from to count edges place =
+    (e x y : ℕ) → e < edges → place_in place (at from e) ≡ Some x → place_in place (at to e) ≡ Some y → at count e < 32 → x < y
 
-abbrev pub LeadsOn : List ℕ → List ℕ → List ℕ → ℕ → List ℕ → Type 0
-LeadsOn from to count edges place = (e : ℕ) → e < edges → 0 < at place (at to e) → at count e < 32 → at place (at from e) < at place (at to e)
-
-pub record Leading (from to count : List ℕ) (edges : ℕ) (list : List ℕ) (n : ℕ) : Type 0 where
-  pub place : List ℕ
-  pub places : Places list n place
+pub record Leading (from to count : List ℕ) (edges : ℕ) (list : List ℕ) : Type 0 where
+  pub place : List (Option ℕ)
+  pub places : Places list (length list) place
   pub leads : LeadsOn from to count edges place
 
-abbrev pub Strides : List ℕ → List ℕ → List ℕ → ℕ → List ℕ → ℕ → ℕ → ℕ → Type 0
-Strides from to count edges list n s r = (r ≡ 1) ⊎ ((r ≡ 32) × (32 ≤ s) × (s % 32 ≡ 0) × Leading from to count edges list n)
+abbrev pub Strides : List ℕ → List ℕ → List ℕ → ℕ → List ℕ → ℕ → ℕ → Type 0
+Strides from to count edges list s r = (r ≡ 1) ⊎ ((r ≡ 32) × (32 ≤ s) × (s % 32 ≡ 0) × Leading from to count edges list)
 
-abbrev pub Taken : List ℕ → List ℕ → List ℕ → List ℕ → ℕ → ℕ → ℕ → List ℕ → List ℕ → Type 0
-Taken kind node first slots base gates clocks ring ring' =
-    ((clocks ≤ 1) × (ring' ≡ evaluated kind node first slots base gates ring)) ⊎ ((1 < clocks) × (ring' ≡ all_ahead kind node first slots base gates ring))
+abbrev pub Taken : List ℕ → List ℕ → List ℕ → List ℕ → ℕ → ℕ → List ℕ → List ℕ → Type 0
+Taken kind node first slots base clocks ring ring' =
+    ((clocks ≤ 1) × (ring' ≡ evaluated kind node first slots base (length node) ring)) ⊎ ((1 < clocks) × (ring' ≡ all_ahead kind node first slots base (length node) ring))

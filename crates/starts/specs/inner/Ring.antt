@@ -9,8 +9,8 @@
 --   Puts                they are put there, and nothing else is
 --   SlotsOf             the slots are right at the places of the first n nodes of a list
 --   further c           a row further, round the ring
---   EdgeRows, Slotable, SlotableOf    what finding the slots asks of the columns
-use Rattle.std.specs.Prelude.{◌≡◌, cond, ◌⊎◌, List, ℕ, suc, ◌+◌, ◌*◌, ◌-◌, ◌%◌, ◌<◌, ◌≤◌, ltb, length}
+--   EdgeRows            what finding a slot asks of an edge
+use Rattle.std.specs.Prelude.{◌≡◌, cond, ◌⊎◌, List, ℕ, suc, ◌+◌, ◌*◌, ◌-◌, ◌%◌, ◌<◌, ◌≤◌, ltb}
 use Rattle.theory.specs.Clock.{value}
 use Rattle.theory.specs.Gate.{gate}
 use Rattle.theory.specs.Move.{quiet}
@@ -62,17 +62,7 @@ further c = (c % 32768 + 512) % 32768
 abbrev pub SlotsOf : List ℕ → ℕ → List ℕ → List ℕ → List ℕ → List ℕ → List ℕ → ℕ → List ℕ → Type 0
 SlotsOf list n first ins from count start s slots = (i : ℕ) → i < n → Slots ins from count start s (at first (at list i)) (at first (suc (at list i))) slots
 
-pub record EdgeRows (from count start : List ℕ) (e : ℕ) : Type 0 where
-  pub rows : (e < length from) × (e < length count) × (e < length start)
+pub record EdgeRows (from count : List ℕ) (e : ℕ) : Type 0 where
+  pub low : e < 1024
   pub source : at from e < 512
   pub width : at count e ≤ 32
-
-pub record Slotable (ins from count start : List ℕ) (size lo hi : ℕ) : Type 0 where
-  pub up : lo ≤ hi
-  pub in_slots : hi ≤ size
-  pub in_ins : hi ≤ length ins
-  pub edges : (k : ℕ) → lo ≤ k → k < hi → EdgeRows from count start (at ins k)
-
-abbrev pub SlotableOf : List ℕ → ℕ → List ℕ → List ℕ → List ℕ → List ℕ → List ℕ → ℕ → Type 0
-SlotableOf list n first ins from count start size =
-    (i : ℕ) → i < n → (at list i < 512) × Slotable ins from count start size (at first (at list i)) (at first (suc (at list i)))

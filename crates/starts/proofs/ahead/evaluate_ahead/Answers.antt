@@ -1,9 +1,9 @@
 -- `all_next` is a turn.
-use Rattle.std.proofs.Common.{◌≡◌, ◌+◌, suc, refl, length, arith, add-one, rules}
+use Rattle.std.proofs.Common.{◌≡◌, ◌+◌, suc, refl, sym, subst, length, arith, add-one, rules, ◌∙◌}
 use Rattle.graph.specs.Columns.{at}
 use Rattle.gates.proofs.Words.{part_length}
 use Rattle.gates.proofs.Row.{placed_seen}
-use Rattle.starts.specs.inner.Ahead.{all_ahead}
+use Rattle.starts.specs.inner.Ahead.{ahead, all_ahead}
 use Rattle.starts.proofs.Turned.{all_next}
 use Rattle.starts.proofs.ahead.evaluate_ahead.Goals as goal
 
@@ -18,7 +18,7 @@ gate_ahead-requires c =
     let l = c.loop-node in
     let p = c.requires.placed l.node-index (omega arith) in
     let rows : length a.ring.now ≡ 32770 = search rules in (
-      placed_seen g.truth.now g.first.now g.list.now (a.base + 15872) a.ring.now l.ring (at g.node.now l.node-index) p l.invariant.0 l.invariant.1,
+      rw (c.sees.ensures, ← add-one) (placed_seen g.truth.now g.first.now g.list.now (a.base + 15872) a.ring.now l.ring (at g.node.now l.node-index) p l.invariant.0 l.invariant.1),
       l.invariant.1,
       omega (arith, p.in_size),
     )
@@ -36,5 +36,5 @@ loop-node-preserved c =
       g.ensures.0,
       λ kind t.
           all_next kind n.node.now n.first.now n.list.now a.base a.ring.now l.ring _ l.node-index (l.invariant.2 kind t)
-          (rw add-one at (g.ensures.1 (at kind v) (rw (add-one, part_length n.list.now (at n.first.now v) (at n.first.now (suc v)) p.in_list) (t l.node-index (omega arith))))),
+          (rw c.sees.ensures at (g.ensures.1 (at kind v) (rw (c.sees.ensures, part_length n.list.now (at n.first.now v) (at n.first.now (suc v)) p.in_list) (t l.node-index (omega arith))))),
     )

@@ -1,101 +1,88 @@
--- The columns are laid out, and `following_next` is a turn.
-use Rattle.std.proofs.Common.{◌≡◌, length, refl, arith, rules, ◌∙◌, sym}
-use Rattle.graph.specs.Columns.{at}
-use Rattle.netlist.proofs.Run.{fit_rows}
-use Rattle.netlist.proofs.Lowest.{kind_low, laid}
+-- The edges are sorted, the nodes are in order, and `following_next` is a turn.
+use Rattle.std.proofs.Common.{◌≡◌, ◌<◌, ◌≤◌, length, replicate, arith, rules}
+use Rattle.theory.specs.Walk.{Loop}
+use Rattle.graph.specs.Columns.{at, column_graph}
+use Rattle.graph.specs.inner.Sort.{Sorts, Ordered}
 use Rattle.graph.proofs.Laws.{loop_kinds}
-use Rattle.simulate.proofs.Seen.{entering}
-use Rattle.starts.proofs.Turned.{taken_cut, evaluable_front, truths_front}
-use Rattle.starts.proofs.Followed.{following_start, following_list, in_list, following_turns, following_strides, following_takes, following_truths, following_next}
+use Rattle.netlist.proofs.Wiring.{of_wires}
+use Rattle.moves.proofs.Labels.{low_nodes, low_edges}
+use Rattle.starts.proofs.Listed.{listed_start, listed_below}
+use Rattle.starts.proofs.Turned.{strides_some}
+use Rattle.starts.proofs.Followed.{following_start, following_nodes, following_takes, following_truths, following_next}
 use Rattle.starts.proofs.ring.follow.Goals as goal
 
-pub invariant_of-wires : goal.invariant_of-wires
-invariant_of-wires c = record { laid = laid c.args.net.now c.requires.0.fit (search rules) (search rules) }
+pub invariant_of-wiring : goal.invariant_of-wiring
+invariant_of-wiring c =
+    let m = c.args.from in
+    record {
+      few_nodes = low_nodes m.net.now m.lab.now m.labelled;
+      few_edges = low_edges m.net.now m.lab.now m.labelled;
+      steppable = c.requires.0;
+      entering = of_wires c.wires-wires.ensures (λ n m from to. Sorts to m n (replicate 1024 0) c.entering.result.list c.entering.result.begin) c.entering.ensures;
+    }
 
-pub evaluation_order-requires-clause-edges_in_bounds : goal.evaluation_order-requires-clause-edges_in_bounds
-evaluation_order-requires-clause-edges_in_bounds c = omega (arith, (fit_rows c.args.net.now c.requires.0.fit).1)
+pub evaluation_order-order-requires-clause-by_index : goal.evaluation_order-order-requires-clause-by_index
+evaluation_order-order-requires-clause-by_index c =
+    let net = c.args.from.net.now in
+    λ kind l. c.requires.0.no_loop (loop_kinds net.nodes net.edges kind net.kind net.from net.to (at net.count)
+    (of_wires c.wires-wires.ensures (λ n m from to. Loop (column_graph n m kind from to) (at net.count)) l))
 
-pub evaluation_order-requires-clause-by_index : goal.evaluation_order-requires-clause-by_index
-evaluation_order-requires-clause-by_index c =
-    let net = c.args.net.now in
-    λ kind l. c.requires.0.no_loop (loop_kinds net.nodes net.edges kind net.kind net.from net.to (at net.count) l)
-
-pub edges_by_node-ins-requires : goal.edges_by_node-ins-requires
-edges_by_node-ins-requires c = let few = fit_rows c.args.net.now c.requires.0.fit in (omega (arith, few.1), omega (arith, few.1), omega (arith, few.0))
-
-pub put_truths-requires-clause-gates_in_bounds : goal.put_truths-requires-clause-gates_in_bounds
-put_truths-requires-clause-gates_in_bounds c = let few = fit_rows c.args.net.now c.requires.0.fit in (omega (arith, few.0), omega (arith, few.0), omega (arith, few.0))
-
-pub put_truths-requires-clause-by_index : goal.put_truths-requires-clause-by_index
-put_truths-requires-clause-by_index c =
-    let net = c.args.net.now in
-    let ok = c.requires.0 in
-    let en = entering net ok.fit ok.fans (omega (arith, (fit_rows net ok.fit).1)) c.edges_by_node-ins.ensures in
-    λ i h. (kind_low net ok.fit i h, en.rising i h, en.few i h, en.three i h)
-
-pub invariant_of-list : goal.invariant_of-list
-invariant_of-list c = record { rows = search rules; few = omega (arith, (fit_rows c.args.net.now c.requires.0.fit).0) }
+pub asked-list-requires : goal.asked-list-requires
+asked-list-requires c =
+    let m = c.args.from in
+    let net = m.net.now in
+    let order = c.evaluation_order-order.result in
+    let rows : length order ≡ 512 = search rules in
+    let low = low_nodes net m.lab.now m.labelled in
+    let all = listed_start net m.lab.now order (omega (arith, low)) (of_wires c.wires-wires.ensures (λ n m from to. Ordered n m from to net.count order) c.evaluation_order-order.ensures) in
+    (omega (arith, all.few, low), omega arith, listed_below all (length m.lab.now) m.labelled.rows)
 
 pub loop-s-init : goal.loop-s-init
 loop-s-init c =
-    let net = c.args.net.now in
-    let ok = c.requires.0 in
-    let few = fit_rows net ok.fit in
-    let net_rows : (length net.from ≡ 1024) × (length net.count ≡ 1024) × (length net.start ≡ 1024) × (length net.to ≡ 1024) = (search rules, search rules, search rules, search rules) in
-    let list_rows : length c.evaluation_order.result ≡ 512 = search rules in
+    let m = c.args.from in
+    let net = m.net.now in
+    let order = c.evaluation_order-order.result in
+    let order_rows : length order ≡ 512 = search rules in
     let ring_rows : length c.empty-ring.result ≡ 32770 = search rules in
-    following_start net c.args.lab.now _ _ _ _
-    (record {
-      steppable = ok;
-      labelled = c.requires.1;
-      net_rows = net_rows;
-      rows = (search rules, search rules, c.put_truths.auto.truth);
-      entering = entering net ok.fit ok.fans (omega (arith, few.1)) c.edges_by_node-ins.ensures;
-      truths = c.put_truths.ensures;
-    })
-    c.requires.2 _ _ _ list_rows refl ring_rows c.empty-ring.ensures c.evaluation_order.ensures
+    following_start _ m.lab.now _ (record { labelled = m.labelled; rows = (search rules, search rules, search rules); truths = c.truths_of-truth.ensures }) order _ _ _ order_rows ring_rows
+    c.empty-ring.ensures (of_wires c.wires-wires.ensures (λ n m from to. Ordered n m from to net.count order) c.evaluation_order-order.ensures) c.asked-list.ensures
+
+pub turn-requires-clause-nodes : goal.turn-requires-clause-nodes
+turn-requires-clause-nodes c = rw c.as_slice-nodes.ensures (following_nodes _ _ _ _ _ _ _ c.loop-s.invariant c.args.from.net.now.nodes (omega arith))
+
+pub turn-requires-clause-before : goal.turn-requires-clause-before
+turn-requires-clause-before c = rw c.as_slice-nodes.ensures c.loop-s.invariant.turned
+
+pub stride-k-requires : goal.stride-k-requires
+stride-k-requires c =
+    let m = c.args.from in
+    let f = c.loop-s.invariant in
+    rw c.as_slice-nodes.ensures (omega (arith, f.listed.few, low_nodes m.net.now m.lab.now m.labelled), following_nodes _ _ _ _ _ _ _ f m.net.now.nodes (omega arith))
+
+pub take-requires-clause-one : goal.take-requires-clause-one
+take-requires-clause-one c =
+    let l = c.loop-s in
+    let f = rw (← c.as_slice-nodes.ensures) at l.invariant in
+    let rows : length c.turn.new.slots ≡ 1024 = search rules in
+    (following_takes _ _ _ _ _ _ _ f _ rows c.turn.ensures _ c.stride-k.ensures).0
+
+pub take-requires-clause-many : goal.take-requires-clause-many
+take-requires-clause-many c =
+    let l = c.loop-s in
+    let f = rw (← c.as_slice-nodes.ensures) at l.invariant in
+    let rows : length c.turn.new.slots ≡ 1024 = search rules in
+    (following_takes _ _ _ _ _ _ _ f _ rows c.turn.ensures _ c.stride-k.ensures).1
 
 pub refresh-requires : goal.refresh-requires
-refresh-requires c = following_list _ _ _ _ _ _ _ _ _ _ _ c.loop-s.invariant c.loop-s-test.true
-
-pub turn-requires-clause-few : goal.turn-requires-clause-few
-turn-requires-clause-few c = omega (arith, (fit_rows c.args.net.now c.requires.0.fit).1)
-
-pub turn-requires-clause-slotable_of : goal.turn-requires-clause-slotable_of
-turn-requires-clause-slotable_of c = (following_turns _ _ _ _ _ _ _ _ _ _ _ c.loop-s.invariant c.loop-s-test.true _ _ c.refresh.ensures (c.refresh.new.self.rows ∙ sym c.loop-s.list.rows)).0
-
-pub turn-requires-clause-by_index : goal.turn-requires-clause-by_index
-turn-requires-clause-by_index c = (following_turns _ _ _ _ _ _ _ _ _ _ _ c.loop-s.invariant c.loop-s-test.true _ _ c.refresh.ensures (c.refresh.new.self.rows ∙ sym c.loop-s.list.rows)).1
-
-pub stride-k-requires-clause-few : goal.stride-k-requires-clause-few
-stride-k-requires-clause-few c = omega (arith, (fit_rows c.args.net.now c.requires.0.fit).1)
-
-pub stride-k-requires-clause-by_index : goal.stride-k-requires-clause-by_index
-stride-k-requires-clause-by_index c = following_strides _ _ _ _ _ _ _ _ _ _ _ c.loop-s.invariant c.loop-s-test.true _ _ c.refresh.ensures (c.refresh.new.self.rows ∙ sym c.loop-s.list.rows)
-
-pub take-requires-clause-evaluable : goal.take-requires-clause-evaluable
-take-requires-clause-evaluable c =
-    let l = c.loop-s in
-    let list = c.refresh.new.self in
-    let rows : length c.turn.new.slots ≡ 1024 = search rules in
-    evaluable_front list.node _ _ _ list.count _ _
-    (following_takes _ _ _ _ _ _ _ _ _ _ _ l.invariant c.loop-s-test.true _ _ c.refresh.ensures (list.rows ∙ sym l.list.rows) _ (rows ∙ sym l.invariant.slot_rows) c.turn.ensures _ c.stride-k.ensures).0
-
-pub take-requires-clause-evaluable_2 : goal.take-requires-clause-evaluable_2
-take-requires-clause-evaluable_2 c = λ h.
-    let l = c.loop-s in
-    let list = c.refresh.new.self in
-    let rows : length c.turn.new.slots ≡ 1024 = search rules in
-    evaluable_front list.node _ _ _ list.count _ _
-    ((following_takes _ _ _ _ _ _ _ _ _ _ _ l.invariant c.loop-s-test.true _ _ c.refresh.ensures (list.rows ∙ sym l.list.rows) _ (rows ∙ sym l.invariant.slot_rows) c.turn.ensures _ c.stride-k.ensures).1 h)
+refresh-requires c =
+    let m = c.args.from in
+    let f = c.loop-s.invariant in
+    (omega (arith, f.listed.few, low_nodes m.net.now m.lab.now m.labelled), omega (arith, c.requires.1, c.loop-s-test.true, (strides_some c.stride-k.ensures).1), following_nodes _ _ _ _ _ _ _ f (length m.lab.now) m.labelled.rows)
 
 pub loop-s-preserved : goal.loop-s-preserved
 loop-s-preserved c =
-    let net = c.args.net.now in
     let l = c.loop-s in
-    let list = c.refresh.new.self in
+    let f = rw (← c.as_slice-nodes.ensures) at l.invariant in
     let rows : length c.turn.new.slots ≡ 1024 = search rules in
-    let in_rows = in_list _ _ _ _ _ _ _ _ _ _ _ l.invariant c.loop-s-test.true _ _ c.refresh.ensures (list.rows ∙ sym l.list.rows) in
-    let truths = truths_front net.kind list.node _ _ list.count in_rows (following_truths _ _ _ _ _ _ _ _ _ _ _ l.invariant c.loop-s-test.true _ _ c.refresh.ensures (list.rows ∙ sym l.list.rows)) in
-    following_next _ _ _ _ _ _ _ _ _ _ _ l.invariant c.loop-s-test.true _ _ c.refresh.ensures (list.rows ∙ sym l.list.rows) _ (rows ∙ sym l.invariant.slot_rows) c.turn.ensures _ c.stride-k.ensures _
-    (taken_cut net.kind list.node _ _ _ _ list.count in_rows _ _ (c.take.ensures net.kind truths))
+    let kept = rw (← c.as_slice-nodes.ensures) at c.refresh.ensures in
+    following_next _ _ _ _ _ _ _ f _ rows c.turn.ensures _ c.stride-k.ensures _ (c.take.ensures c.args.from.net.now.kind (following_truths _ _ _ _ _ _ _ f)) _ kept

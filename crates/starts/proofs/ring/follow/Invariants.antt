@@ -4,7 +4,7 @@ use Rattle.starts.proofs.Followed.{Following}
 use Rattle.starts.proofs.ring.follow.Given as goal
 
 abbrev pub invariant-loop-s : goal.invariant-loop-s
-invariant-loop-s l = Following l.net l.lab l.ins.list l.ins.begin l.truth l.clocks l.s l.list.node l.list.count l.slots l.ring
+invariant-loop-s l = Following l.wiring l.from.lab.now l.truth l.s l.list l.slots l.ring
 
 abbrev pub decreases-loop-s : goal.decreases-loop-s
 decreases-loop-s l = l.clocks - l.s

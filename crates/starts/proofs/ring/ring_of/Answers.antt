@@ -11,12 +11,12 @@ cut lab nodes clocks h w v l = subst (λ x. 16384 ≤ clocks + x) (get_or-take n
 
 pub returns-then-clocks-eq0 : goal.returns-then-clocks-eq0
 returns-then-clocks-eq0 c =
-    let a = c.args in
+    let m = c.args.from in
     let rows : length c.empty.result ≡ 32770 = search rules in
-    held_end a.net.now a.lab.now 0 c.empty.result (λ v h. omega (arith, cut a.lab.now a.net.now.nodes c.clocks_asked-clocks.result c.requires.1.rows c.clocks_asked-clocks.ensures.1 v h, c.if-clocks-eq0.true))
-    (held_start a.net.now a.lab.now c.empty.result rows c.empty.ensures)
+    held_end m.net.now m.lab.now 0 c.empty.result (λ v h. omega (arith, cut m.lab.now m.net.now.nodes c.clocks_asked-clocks.result m.labelled.rows c.clocks_asked-clocks.ensures.1 v h, c.if-clocks-eq0.true))
+    (held_start m.net.now m.lab.now c.empty.result rows c.empty.ensures)
 
 pub follow-requires : goal.follow-requires
 follow-requires c =
-    let a = c.args in
-    (c.requires.0, c.requires.1, c.clocks_asked-clocks.ensures.0, cut a.lab.now a.net.now.nodes c.clocks_asked-clocks.result c.requires.1.rows c.clocks_asked-clocks.ensures.1)
+    let m = c.args.from in
+    (c.requires, c.clocks_asked-clocks.ensures.0, cut m.lab.now m.net.now.nodes c.clocks_asked-clocks.result m.labelled.rows c.clocks_asked-clocks.ensures.1)

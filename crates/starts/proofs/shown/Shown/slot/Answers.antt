@@ -1,7 +1,7 @@
--- `starts::ring::Shown::slot` meets its contract, by the two cases of `slot_of`.
+-- `starts::shown::Shown::slot` meets its contract, by the two cases of `slot_of`.
 use Rattle.std.proofs.Common.{sym, arith}
 use Rattle.starts.proofs.Slots.{slot_early, slot_late}
-use Rattle.starts.proofs.ring.Shown.slot.Goals as goal
+use Rattle.starts.proofs.shown.Shown.slot.Goals as goal
 
 pub returns-then-s-count : goal.returns-then-s-count
 returns-then-s-count c = let a = c.args in sym (slot_early a.self.from a.self.registers a.self.start a.s c.if-s-count.true)

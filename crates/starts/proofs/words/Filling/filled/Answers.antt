@@ -5,12 +5,12 @@ use Rattle.graph.specs.Columns.{at}
 use Rattle.theory.proofs.numbers.Sums.{sum_more}
 use Rattle.moves.proofs.Words.{put_short}
 use Rattle.starts.proofs.Slots.{slot_in}
-use Rattle.starts.proofs.words.filled.Goals as goal
+use Rattle.starts.proofs.words.Filling.filled.Goals as goal
 
 pub bounds-ring-c : goal.bounds-ring-c
 bounds-ring-c c =
-    let e = c.args.edge in
-    omega (arith, c.slot-c.ensures, slot_in e.from e.registers e.start (c.loop-t.t + 16384 - c.args.to.label) e.source)
+    let e = c.args.self.edge in
+    omega (arith, c.slot-c.ensures, slot_in e.from e.registers e.start (c.loop-t.t + 16384 - c.args.self.label) e.source)
 
 pub loop-t-preserved : goal.loop-t-preserved
 loop-t-preserved c =

@@ -1,0 +1,40 @@
+-- `starts::wiring::truths_of` meets its contract: the kinds are cut to the nodes.
+use Rattle.std.proofs.Common.{◌≡◌, ℕ, ◌<◌, ◌≤◌, length, take, arith, rules, length-take, replicate}
+use Rattle.std.proofs.lemmas.List.{get_or-take}
+use Rattle.graph.specs.Columns.{at}
+use Rattle.netlist.specs.declared.Netlist.{Netlist}
+use Rattle.netlist.proofs.Run.{fit_rows}
+use Rattle.netlist.proofs.Lowest.{kind_low}
+use Rattle.simulate.proofs.Seen.{entering}
+use Rattle.starts.proofs.wiring.truths_of.Goals as goal
+
+cut : (net : Netlist) → length net.kind ≡ 512 → net.nodes ≤ 512 → (length (take net.nodes net.kind) ≡ net.nodes) × ((v : ℕ) → v < net.nodes → at (take net.nodes net.kind) v ≡ at net.kind v)
+cut net h l = (omega (arith, length-take net.nodes net.kind), λ v b. get_or-take net.nodes net.kind v 0 b)
+
+pub shared_ref_as_front-put_truths : goal.shared_ref_as_front-put_truths
+shared_ref_as_front-put_truths c = (fit_rows c.args.net.now c.requires.0.fit).0
+
+pub put_truths-requires-clause-gates_in_bounds : goal.put_truths-requires-clause-gates_in_bounds
+put_truths-requires-clause-gates_in_bounds c =
+    let net = c.args.net.now in
+    let low = (fit_rows net c.requires.0.fit).0 in
+    let k = cut net (search rules) low in
+    let begin_rows : length c.args.ins.now.begin ≡ 513 = search rules in
+    (omega (arith, k.0, low), omega (arith, k.0, low))
+
+pub put_truths-requires-clause-by_index : goal.put_truths-requires-clause-by_index
+put_truths-requires-clause-by_index c =
+    let net = c.args.net.now in
+    let ok = c.requires.0 in
+    let few = fit_rows net ok.fit in
+    let k = cut net (search rules) few.0 in
+    let en = entering net ok.fit ok.fans (omega (arith, few.1)) c.requires.1 in
+    λ v l.
+    let h : v < net.nodes = omega (arith, k.0) in
+    rw (k.1 v h) (kind_low net ok.fit v h, en.rising v h, en.few v h, en.three v h)
+
+pub returns : goal.returns
+returns c =
+    let net = c.args.net.now in
+    let k = cut net (search rules) (fit_rows net c.requires.0.fit).0 in
+    λ v h. rw (k.1 v h) at (c.put_truths.ensures v (omega (arith, k.0)))
