@@ -2,12 +2,15 @@
 --   chosen_found        the chosen ones are its first new start values
 --   fillable            what filling up the word asks
 --   shown_found         the others stand in the ring
+--   start_found         so the word filled up has all of them
+--   shown_rows          what an edge shows
 --   moved_is            the netlist with the new counts and start values is the moved one
 use Prim.Native.Nat.{ℕ, ◌+◌, ◌*◌, ◌-◌, ◌^◌, ◌≤◌, ◌<◌, min}
 use native.Mathlib.Omega.{arith}
 use mathlib.Core.Path.{◌≡◌, sym, subst, ap, ap₂, ◌∙◌}
 use mathlib.Core.List.{List}
-use lib.ListN.{length}
+use lib.ListN.{length, take}
+use Rattle.std.proofs.lemmas.List.{length-take-le, get_or-take}
 use Rattle.theory.specs.Gate.{gate}
 use Rattle.theory.specs.Move.{move}
 use Rattle.theory.proofs.numbers.Sums.{sum_same}
@@ -24,6 +27,7 @@ use Rattle.moves.specs.Moved.{word_of, moved_net}
 use Rattle.moves.specs.inner.Columns.{Filled, none}
 use Rattle.moves.proofs.Labels.{from_node, low_edges, low_nodes, new_fits, new_is}
 use Rattle.moves.proofs.Moved.{with_is}
+use Rattle.starts.specs.declared.words.Filling.{Filling}
 use Rattle.starts.specs.inner.Ring.{Followed, EdgeRows}
 use Rattle.starts.specs.inner.Starts.{start_at, shown_slot, starts_at}
 use Rattle.starts.proofs.Quiet.{new_chosen, new_seen}
@@ -69,6 +73,19 @@ module _ (net : Netlist) (lab counts : List ℕ) (m : Moving net lab counts) (e 
           let l = new_fits net lab m.labelled e h in
           omega (arith, m.counted e h, new_is net lab m.labelled e h (at net.count e + v - at lab u) (omega arith))
 
+  -- The word that is filled up has the edge's new start values.
+  pub start_found : (c : ℕ) (ring : List ℕ) → Followed net lab ring → (words : List ℕ) → at words e ≡ chosen_word net (lags_of lab) c e → (to : Filling) (x : ℕ)
+      → (to.edge.from ≡ at net.from e) × (to.edge.registers ≡ at net.count e) × (to.edge.start ≡ at net.start e)
+      → (to.word ≡ at words e) × (to.chosen ≡ chosen)
+      → (to.count ≡ at counts e) × (to.label ≡ at lab (at net.to e))
+      → ((f : ℕ → ℕ) → to.word ≡ word_of f to.chosen
+      → ((t : ℕ) → to.chosen ≤ t → t < to.count → at ring (shown_slot to.edge.from to.edge.registers to.edge.start to.label t) ≡ f t) → x ≡ word_of f to.count)
+      → x ≡ starts_at net lab counts c e
+  start_found c ring f words w to x edge (word, many) (count, label) filled =
+      filled (start_at net lab c e) (word ∙ chosen_found c (at words e) w ∙ ap (word_of (start_at net lab c e)) (sym many))
+      (λ t a b. rw (edge.0, edge.1, edge.2, label) (shown_found c ring f t (omega arith) (omega arith)))
+      ∙ ap (word_of (start_at net lab c e)) count
+
 -- An edge shows a node behind 32 registers at most.
 pub shown_rows : (net : Netlist) (lab : List ℕ) → Labelled net lab → (e : ℕ) → e < net.edges → EdgeRows net.from net.count e
 shown_rows net lab s e h = record {
@@ -79,10 +96,13 @@ shown_rows net lab s e h = record {
 
 -- ── The moved netlist ───────────────────────────────────────────────────────────────────────
 
+-- The counts as bytes, made of the counts of the edges alone.
 pub moved_is : (net : Netlist) (lab counts : List ℕ) (c : ℕ) → Moving net lab counts → (bytes words : List ℕ) → length bytes ≡ 1024 → length words ≡ 1024
-    → Filled (at counts) none net.edges bytes → Filled (starts_at net lab counts c) none net.edges words → with_columns net bytes words ≡ moved_net net (lags_of lab) c
+    → (let own = take net.edges counts in Filled (at own) none (length own) bytes) → Filled (starts_at net lab counts c) none net.edges words
+    → with_columns net bytes words ≡ moved_net net (lags_of lab) c
 unfolding moved_net move
 moved_is net lab counts c m bytes words p q a b =
+    let size = length-take-le net.edges counts m.count_rows in
     sym (with_is net (retimed_at net (lags_of lab) c) bytes words (low_edges net lab m.labelled) p q
-    (record { rows = λ e h. a.rows e h ∙ m.counted e h; past = a.past })
+    (record { rows = λ e h. a.rows e (omega arith) ∙ get_or-take net.edges counts e 0 h ∙ m.counted e h; past = λ e h. a.past e (omega arith) })
     (record { rows = λ e h. b.rows e h ∙ ap (word_of (start_at net lab c e)) (m.counted e h); past = b.past }))
