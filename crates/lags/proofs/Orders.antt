@@ -1,14 +1,17 @@
 -- Orders under labels: the one to start from, and how a round keeps it.
 --   held_loop           no loop is empty under the labels
 --   held_ordered        an evaluation order, where the edges that are empty under the labels count as those without a register
+--   filtered_past, filtered_push            a filtered list, whatever stands past its items; with the next member put behind them
 --   parts_none, parts_late, parts_rest      none yet; the next is late, or not
 --   order_kept          after a round, the late nodes first and then the others
 use Prim.Native.Nat.{ℕ, ◌+◌, ◌-◌, ◌≤◌, ◌<◌}
 use native.Mathlib.Omega.{arith}
 use native.Mathlib.Decide.{dec_lt}
-use mathlib.Core.Path.{◌≡◌, sym, subst, ap, ◌∙◌}
-use mathlib.Core.List.{List}
-use lib.ListN.{length, set}
+use mathlib.Core.Path.{◌≡◌, refl, sym, subst, ap, ◌∙◌}
+use mathlib.Core.List.{List, [], ◌∷◌, ◌++◌}
+use lib.ListN.{length, length-set, length-append, get_or-append}
+use lib.Seq.{set-append_seam, get_or-append-add}
+use Rattle.std.proofs.lemmas.List.{get_or-take}
 use Rattle.theory.specs.Walk.{Walk, one, more, registers, Loop}
 use Rattle.theory.specs.inner.Labels.{Chain, Fits}
 use Rattle.theory.proofs.labels.Chains.{chain_sum}
@@ -48,23 +51,50 @@ module _ (net : Netlist) (lab held : List ℕ) (q : Held net lab held) where
 
 -- ── Parting ─────────────────────────────────────────────────────────────────────────────────
 
-module _ (order time : List ℕ) (P : ℕ) where
-  pub parts_none : (late rest : List ℕ) → Parts order time P 0 late rest 0 0
-  parts_none late rest = record { late_part = filtered_none _ order late; rest_part = filtered_none _ order rest; all = omega arith }
+-- A list is as well filtered, whatever stands past its items.
+module _ (Q : ℕ → Type 0) (order : List ℕ) (n : ℕ) (xs : List ℕ) (f : Filtered Q order n xs (length xs)) where
+  same_at : (past : List ℕ) (j : ℕ) → j < length xs → at xs j ≡ at (xs ++ past) j
+  same_at past j h = sym (get_or-append xs past 0 j h)
 
-  module _ (i : ℕ) (late rest : List ℕ) (a b : ℕ) (w : Parts order time P i late rest a b) where
-    pub parts_late : P < at time (at order i) → a < length late → Parts order time P (i + 1) (set late a (at order i)) rest (a + 1) b
-    parts_late h room = record {
-      late_part = filtered_hit (LateBy time P) order i late a w.late_part h room;
-      rest_part = filtered_miss (OnTime time P) order i rest b w.rest_part (λ z. omega arith);
-      all = omega (arith, w.all);
+  same_stands : (past : List ℕ) (j v : ℕ) → j ≤ length xs → Stands xs j v → Stands (xs ++ past) j v
+  same_stands past j v h t = record { place = t.place; within = t.within; holds = sym (same_at past t.place (omega (arith, t.within))) ∙ t.holds }
+
+  filtered_past : (past : List ℕ) → Filtered Q order n (xs ++ past) (length xs)
+  filtered_past past = record {
+    few = f.few;
+    each = λ j h. let k = f.each j h in record {
+      place = k.place;
+      within = k.within;
+      same = k.same ∙ same_at past j h;
+      has = subst Q (same_at past j h) k.has;
+      before = λ q m y. same_stands past j (at order q) (omega arith) (k.before q m y);
+    };
+    every = λ p h y. same_stands past (length xs) (at order p) (omega arith) (f.every p h y);
+  }
+
+  -- The next member has the property, and is put behind the others.
+  filtered_push : Q (at order n) → Filtered Q order (n + 1) (xs ++ at order n ∷ []) (length (xs ++ at order n ∷ []))
+  filtered_push q =
+      rw (← set-append_seam xs 0 [] (at order n), length-set, length-append)
+      (filtered_hit Q order n (xs ++ 0 ∷ []) (length xs) (filtered_past (0 ∷ [])) q (omega (arith, length-append xs (0 ∷ []))))
+
+module _ (order time : List ℕ) (P : ℕ) where
+  pub parts_none : Parts order time P 0 [] []
+  parts_none = record { late_part = filtered_none _ order []; rest_part = filtered_none _ order []; all = refl }
+
+  module _ (i : ℕ) (late rest : List ℕ) (w : Parts order time P i late rest) where
+    pub parts_late : P < at time (at order i) → Parts order time P (i + 1) (late ++ at order i ∷ []) rest
+    parts_late h = record {
+      late_part = filtered_push (LateBy time P) order i late w.late_part h;
+      rest_part = filtered_miss (OnTime time P) order i rest (length rest) w.rest_part (λ z. omega arith);
+      all = omega (arith, w.all, length-append late (at order i ∷ []));
     }
 
-    pub parts_rest : at time (at order i) ≤ P → b < length rest → Parts order time P (i + 1) late (set rest b (at order i)) a (b + 1)
-    parts_rest h room = record {
-      late_part = filtered_miss (LateBy time P) order i late a w.late_part (λ z. omega arith);
-      rest_part = filtered_hit (OnTime time P) order i rest b w.rest_part h room;
-      all = omega (arith, w.all);
+    pub parts_rest : at time (at order i) ≤ P → Parts order time P (i + 1) late (rest ++ at order i ∷ [])
+    parts_rest h = record {
+      late_part = filtered_miss (LateBy time P) order i late (length late) w.late_part (λ z. omega arith);
+      rest_part = filtered_push (OnTime time P) order i rest w.rest_part h;
+      all = omega (arith, w.all, length-append rest (at order i ∷ []));
     }
 
 -- ── A round ─────────────────────────────────────────────────────────────────────────────────
@@ -90,30 +120,43 @@ module _ (net : Netlist) (lab order : List ℕ) (o : LabelOrder net lab order) (
 -- Only u late: u is in the first part and v in the second. Only v late: the edge would have had fewer than 0 registers.
 module _ (net : Netlist) (P : ℕ) (time lab next order new : List ℕ) (s : Sure net) (fits : Fits (graph_of net) (at net.count) (at lab))
     (l : Lifted net.nodes P time lab next) (o : LabelOrder net lab order) (w : Parted order time P net.nodes new) where
-  back : (k : ℕ) → k < w.b → at new (w.a + k) ≡ at w.rest k
-  back k h = w.joined.added k (omega arith) ∙ ap (at w.rest) (let z : 0 + k ≡ k = omega arith in z)
+  abbrev a : ℕ
+  a = length w.late
 
-  late_in : (p v : ℕ) → p ≤ w.a → Stands w.late p v → Stands new p v
-  late_in p v h t = record { place = t.place; within = t.within; holds = w.joined.kept t.place (omega (arith, t.within)) ∙ t.holds }
+  abbrev b : ℕ
+  b = length w.rest
 
-  rest_in : (k v : ℕ) → k ≤ w.b → Stands w.rest k v → Stands new (w.a + k) v
-  rest_in k v h t = record { place = w.a + t.place; within = omega (arith, t.within); holds = back t.place (omega (arith, t.within)) ∙ t.holds }
+  -- What stands at a place of the new order.
+  stands_at : (p : ℕ) → p < net.nodes → at new p ≡ at (w.late ++ w.rest) p
+  stands_at p h = sym (get_or-take net.nodes new p 0 h) ∙ ap (λ xs. at xs p) w.joined
 
-  late_first : (p v : ℕ) → w.a ≤ p → v < net.nodes → P < at time v → Stands new p v
+  kept : (p : ℕ) → p < a → at new p ≡ at w.late p
+  kept p h = stands_at p (omega (arith, w.parts.all)) ∙ get_or-append w.late w.rest 0 p h
+
+  back : (k : ℕ) → k < b → at new (a + k) ≡ at w.rest k
+  back k h = stands_at (a + k) (omega (arith, w.parts.all)) ∙ get_or-append-add w.late w.rest k 0
+
+  late_in : (p v : ℕ) → p ≤ a → Stands w.late p v → Stands new p v
+  late_in p v h t = record { place = t.place; within = t.within; holds = kept t.place (omega (arith, t.within)) ∙ t.holds }
+
+  rest_in : (k v : ℕ) → k ≤ b → Stands w.rest k v → Stands new (a + k) v
+  rest_in k v h t = record { place = a + t.place; within = omega (arith, t.within); holds = back t.place (omega (arith, t.within)) ∙ t.holds }
+
+  late_first : (p v : ℕ) → a ≤ p → v < net.nodes → P < at time v → Stands new p v
   late_first p v h m k =
-      let t = late_in w.a v (omega arith) (part_all net lab order o (LateBy time P) w.late w.a w.parts.late_part v m k) in
+      let t = late_in a v (omega arith) (part_all net lab order o (LateBy time P) w.late a w.parts.late_part v m k) in
       record { place = t.place; within = omega (arith, t.within); holds = t.holds }
 
   -- What holds at every place of the one part and of the other holds at every place.
-  each : (R : ℕ → ℕ → Type 0) → ((j : ℕ) → j < w.a → R j (at w.late j)) → ((j : ℕ) → j < w.b → R (w.a + j) (at w.rest j)) → (p : ℕ) → p < net.nodes → R p (at new p)
-  each R f g p h = go (dec_lt p w.a)
+  each : (R : ℕ → ℕ → Type 0) → ((j : ℕ) → j < a → R j (at w.late j)) → ((j : ℕ) → j < b → R (a + j) (at w.rest j)) → (p : ℕ) → p < net.nodes → R p (at new p)
+  each R f g p h = go (dec_lt p a)
     where
-      go : Dec (p < w.a) → R p (at new p)
-      go (yes x) = subst (R p) (sym (w.joined.kept p x)) (f p x)
+      go : Dec (p < a) → R p (at new p)
+      go (yes x) = subst (R p) (sym (kept p x)) (f p x)
       go (no x) =
-          let j = p - w.a in
-          let y : j < w.b = omega (arith, w.parts.all) in
-          subst (λ q. R q (at new q)) (let z : w.a + j ≡ p = omega arith in z) (subst (R (w.a + j)) (sym (back j y)) (g j y))
+          let j = p - a in
+          let y : j < b = omega (arith, w.parts.all) in
+          subst (λ q. R q (at new q)) (let z : a + j ≡ p = omega arith in z) (subst (R (a + j)) (sym (back j y)) (g j y))
 
   module _ (e : ℕ) (m : e < net.edges) (z : EmptyUnder net next e) where
     abbrev u : ℕ
@@ -128,7 +171,7 @@ module _ (net : Netlist) (P : ℕ) (time lab next order new : List ℕ) (s : Sur
     v_in : v < net.nodes
     v_in = (fit_wired net s.fit).dst_in e m
 
-    before_late : (j : ℕ) → j < w.a → v ≡ at w.late j → Stands new j u
+    before_late : (j : ℕ) → j < a → v ≡ at w.late j → Stands new j u
     before_late j h q = go (dec_lt P (at time u))
       where
         late : P < at time v
@@ -136,29 +179,29 @@ module _ (net : Netlist) (P : ℕ) (time lab next order new : List ℕ) (s : Sur
 
         go : Dec (P < at time u) → Stands new j u
         go (yes k) =
-            late_in j u (omega arith) (part_order net lab order o (LateBy time P) w.late w.a w.parts.late_part j e h m q
+            late_in j u (omega arith) (part_order net lab order o (LateBy time P) w.late a w.parts.late_part j e h m q
             (omega (arith, l.up u u_in k, l.up v v_in late)) k)
         go (no k) = absurd (let y : ⊥ = omega (arith, l.stays u u_in (omega arith), l.up v v_in late, fits e m) in y)
 
-    before_rest : (j : ℕ) → j < w.b → v ≡ at w.rest j → Stands new (w.a + j) u
+    before_rest : (j : ℕ) → j < b → v ≡ at w.rest j → Stands new (a + j) u
     before_rest j h q = go (dec_lt P (at time u))
       where
         quick : at time v ≤ P
         quick = subst (λ x. at time x ≤ P) (sym q) (w.parts.rest_part.each j h).has
 
-        go : Dec (P < at time u) → Stands new (w.a + j) u
-        go (yes k) = late_first (w.a + j) u (omega arith) u_in k
+        go : Dec (P < at time u) → Stands new (a + j) u
+        go (yes k) = late_first (a + j) u (omega arith) u_in k
         go (no k) =
             let y : at time u ≤ P = omega arith in
-            rest_in j u (omega arith) (part_order net lab order o (OnTime time P) w.rest w.b w.parts.rest_part j e h m q
+            rest_in j u (omega arith) (part_order net lab order o (OnTime time P) w.rest b w.parts.rest_part j e h m q
             (omega (arith, l.stays u u_in y, l.stays v v_in quick)) y)
 
   pub order_kept : LabelOrder net next new
   order_kept = record {
     listed = record {
       node = each (λ p x. x < net.nodes)
-          (part_node net lab order o (LateBy time P) w.late w.a w.parts.late_part)
-          (part_node net lab order o (OnTime time P) w.rest w.b w.parts.rest_part);
+          (part_node net lab order o (LateBy time P) w.late a w.parts.late_part)
+          (part_node net lab order o (OnTime time P) w.rest b w.parts.rest_part);
       every = λ x h. every x h (dec_lt P (at time x));
     };
     sources_first = λ p e h m q z. each (λ k x. at net.to e ≡ x → Stands new k (at net.from e)) (before_late e m z) (before_rest e m z) p h q;
@@ -168,4 +211,4 @@ module _ (net : Netlist) (P : ℕ) (time lab next order new : List ℕ) (s : Sur
       every x h (yes k) = late_first net.nodes x (omega (arith, w.parts.all)) h k
       every x h (no k) =
           subst (λ n. Stands new n x) w.parts.all
-          (rest_in w.b x (omega arith) (part_all net lab order o (OnTime time P) w.rest w.b w.parts.rest_part x h (omega arith)))
+          (rest_in b x (omega arith) (part_all net lab order o (OnTime time P) w.rest b w.parts.rest_part x h (omega arith)))

@@ -1,15 +1,15 @@
 // The order that the rounds go by: each node stands after the source of every edge that enters it and is empty under the labels.
 // A round keeps it, once the late nodes are put first: proofs/Orders, `order_kept`.
 // Private to the crate: `least` hands on a netlist that reads.
-ghost use Rattle.std.specs.Prelude.{List, ℕ, ◌-◌, ◌+◌, ◌<◌};
+ghost use Rattle.std.specs.Prelude.{◌≡◌, List, ◌++◌, ℕ, ◌+◌, ◌<◌, ◌≤◌, length, take};
 ghost use Rattle.theory.specs.Walk.{Loop};
 ghost use Rattle.graph.specs.Columns.{at, column_graph};
 ghost use Rattle.graph.specs.inner.Sort.{Ordered};
 ghost use Rattle.lags.specs.inner.Lags.{Sure};
-ghost use Rattle.lags.specs.inner.Rounds.{Low, HeldAt, Held, LabelOrder, Nodes, Parts, Parted};
+ghost use Rattle.lags.specs.inner.Rounds.{Low, HeldAt, Held, LabelOrder, Nodes, Parted};
 
 use crate::query::Query;
-use graph::{EDGES, NODES, column, evaluation_order};
+use graph::{EDGES, Items, NODES, column, evaluation_order};
 use netlist::Netlist;
 
 // 0 for an edge that is empty under the labels of its ends, else 1.
@@ -51,41 +51,33 @@ pub fn order_under(net: &Netlist, lab: &[u32; NODES]) -> [u16; NODES]
     order_by(net, &registers_under(net, lab))
 }
 
-impl<'a> Query<'a> {
-    // The late nodes of an order into one list and the others into another. How many are late.
-    fn part(
-        &self,
-        order: &[u16; NODES],
-        time: &[u32; NODES],
-        late: &mut [u16; NODES],
-        rest: &mut [u16; NODES],
-    ) -> usize
-        requires { Nodes self.now.net.now.nodes order.now }
-        ensures { Parts order.now time.now self.now.period self.now.net.now.nodes late.new rest.new result (self.now.net.now.nodes - result) }
-    {
-        let mut n = 0;
-        for i in 0..self.net.nodes as usize {
-            let v = order[i];
-            if self.period < time[v as usize] {
-                late[n] = v;
-                n += 1;
-            } else {
-                rest[i - n] = v;
-            }
-        }
-        n
-    }
+// The nodes of two lists, one list behind the other.
+fn joined(first: &[u16], second: &[u16]) -> [u16; NODES]
+    requires { length first.now + length second.now ≤ 512 }
+    ensures { take (length first.now + length second.now) result ≡ first.now ++ second.now }
+{
+    let n = first.len();
+    let mut both = [0; NODES];
+    both[..n].copy_from_slice(first);
+    both[n..n + second.len()].copy_from_slice(second);
+    both
+}
 
+impl<'a> Query<'a> {
     // The late nodes first, in their order, then the others, in theirs.
     pub fn parted(&self, order: &[u16; NODES], time: &[u32; NODES]) -> [u16; NODES]
         requires { Nodes self.now.net.now.nodes order.now }
         ensures { Parted order.now time.now self.now.period self.now.net.now.nodes result }
     {
-        let nodes = self.net.nodes as usize;
-        let mut late = [0u16; NODES];
-        let mut rest = [0u16; NODES];
-        let n = self.part(order, time, &mut late, &mut rest);
-        late[n..nodes].copy_from_slice(&rest[..nodes - n]);
-        late
+        let mut late = Items::<NODES>::new();
+        let mut rest = Items::<NODES>::new();
+        for v in &order[..self.net.nodes as usize] {
+            if self.period < time[*v as usize] {
+                late.push(*v);
+            } else {
+                rest.push(*v);
+            }
+        }
+        joined(late.as_slice(), rest.as_slice())
     }
 }

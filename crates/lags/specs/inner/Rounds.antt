@@ -12,12 +12,12 @@
 --   LateBy, OnTime      a node that is late; one that is not
 --   Parts               the first n of an order in two lists: those that are late, and the others
 --   Parted              both in one list, the late ones first
-use Rattle.std.specs.Prelude.{◌≡◌, List, ◌⊎◌, ℕ, ◌+◌, ◌≤◌, ◌<◌, length}
+use Rattle.std.specs.Prelude.{◌≡◌, List, ◌++◌, ◌⊎◌, ℕ, ◌+◌, ◌≤◌, ◌<◌, length, take}
 use Rattle.theory.specs.inner.Labels.{Empty}
 use Rattle.theory.specs.inner.Arrival.{Arrival}
 use Rattle.graph.specs.Columns.{at}
 use Rattle.graph.specs.inner.Sort.{Stands}
-use Rattle.graph.specs.inner.Lists.{Appended, Filtered}
+use Rattle.graph.specs.inner.Lists.{Filtered}
 use Rattle.netlist.specs.declared.Netlist.{Netlist}
 use Rattle.netlist.specs.Net.{graph_of, regs_of, delay_of}
 use Rattle.lags.specs.inner.Wires.{NodeList}
@@ -77,15 +77,13 @@ LateBy time period v = period < at time v
 abbrev pub OnTime : List ℕ → ℕ → ℕ → Type 0
 OnTime time period v = at time v ≤ period
 
-pub record Parts (order time : List ℕ) (period n : ℕ) (late rest : List ℕ) (a b : ℕ) : Type 0 where
-  pub late_part : Filtered (LateBy time period) order n late a
-  pub rest_part : Filtered (OnTime time period) order n rest b
-  pub all : a + b ≡ n
+pub record Parts (order time : List ℕ) (period n : ℕ) (late rest : List ℕ) : Type 0 where
+  pub late_part : Filtered (LateBy time period) order n late (length late)
+  pub rest_part : Filtered (OnTime time period) order n rest (length rest)
+  pub all : length late + length rest ≡ n
 
 pub record Parted (order time : List ℕ) (period nodes : ℕ) (new : List ℕ) : Type 0 where
   pub late : List ℕ
   pub rest : List ℕ
-  pub a : ℕ
-  pub b : ℕ
-  pub parts : Parts order time period nodes late rest a b
-  pub joined : Appended (at rest) late new 0 b a
+  pub parts : Parts order time period nodes late rest
+  pub joined : take nodes new ≡ late ++ rest
