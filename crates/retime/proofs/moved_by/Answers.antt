@@ -17,9 +17,9 @@ use Rattle.retime.proofs.Order.{wide, moved}
 use Rattle.retime.proofs.moved_by.Goals as goal
 
 -- What is known where no count is above 32.
-moving : {net : Netlist} {lab counts : List ℕ} → Steppable net × Sure net × SoundIn net → Labelled net lab → Counts net lab counts → net.edges ≤ length counts → Wide counts net.edges None
+moving : {net : Netlist} {lab counts : List ℕ} → Steppable net → Sure net × SoundIn net → Labelled net lab → Counts net lab counts → net.edges ≤ length counts → Wide counts net.edges None
     → Moving net lab counts
-moving (steppable, sure, sound) labelled counted rows narrow =
+moving steppable (sure, sound) labelled counted rows narrow =
     record { steppable = steppable; sure = sure; sound = sound; labelled = labelled; counted = counted; count_rows = rows; narrow = narrow }
 
 pub returns-in-Some : goal.returns-in-Some
@@ -36,7 +36,7 @@ bounds-base-edges c = omega (arith, low_edges _ _ c.args.least.labelled)
 
 pub choose-requires : goal.choose-requires
 choose-requires c = record {
-  moving = moving c.requires.steppable c.args.least.labelled c.new_counts-counts.ensures (omega (arith, low_edges _ _ c.args.least.labelled)) c.in_default.ensures;
+  moving = moving c.args.least.steppable c.requires.sure c.args.least.labelled c.new_counts-counts.ensures (omega (arith, low_edges _ _ c.args.least.labelled)) c.in_default.ensures;
   based = c.chosen-base.ensures;
   base_rows = omega (arith, low_edges _ _ c.args.least.labelled);
   chosen = refl;
@@ -48,7 +48,7 @@ moved-requires c =
     let words = c.in-Some-choose.words in
     let rows : length words ≡ 1024 = search rules in
     let b = c.in-Some-choose.ensures in (
-      moving c.requires.steppable c.args.least.labelled c.new_counts-counts.ensures (omega (arith, low_edges _ _ c.args.least.labelled)) c.in_default.ensures,
+      moving c.args.least.steppable c.requires.sure c.args.least.labelled c.new_counts-counts.ensures (omega (arith, low_edges _ _ c.args.least.labelled)) c.in_default.ensures,
       words_short _ _ b.number _ (omega (arith, low_edges _ _ c.args.least.labelled)) b.its_words,
     )
 
