@@ -17,14 +17,14 @@ invariant_of-wiring c =
     record {
       few_nodes = low_nodes m.net.now m.lab.now m.labelled;
       few_edges = low_edges m.net.now m.lab.now m.labelled;
-      steppable = c.requires.0;
+      steppable = m.steppable;
       entering = of_wires c.wires-wires.ensures (λ n m from to. Sorts to m n (replicate 1024 0) c.entering.result.list c.entering.result.begin) c.entering.ensures;
     }
 
 pub evaluation_order-order-requires-clause-by_index : goal.evaluation_order-order-requires-clause-by_index
 evaluation_order-order-requires-clause-by_index c =
     let net = c.args.from.net.now in
-    λ kind l. c.requires.0.no_loop (loop_kinds net.nodes net.edges kind net.kind net.from net.to (at net.count)
+    λ kind l. c.args.from.steppable.no_loop (loop_kinds net.nodes net.edges kind net.kind net.from net.to (at net.count)
     (of_wires c.wires-wires.ensures (λ n m from to. Loop (column_graph n m kind from to) (at net.count)) l))
 
 pub asked-list-requires : goal.asked-list-requires
@@ -77,7 +77,7 @@ pub refresh-requires : goal.refresh-requires
 refresh-requires c =
     let m = c.args.from in
     let f = c.loop-s.invariant in
-    (omega (arith, f.listed.few, low_nodes m.net.now m.lab.now m.labelled), omega (arith, c.requires.1, c.loop-s-test.true, (strides_some c.stride-k.ensures).1), following_nodes _ _ _ _ _ _ _ f (length m.lab.now) m.labelled.rows)
+    (omega (arith, f.listed.few, low_nodes m.net.now m.lab.now m.labelled), omega (arith, c.requires.0, c.loop-s-test.true, (strides_some c.stride-k.ensures).1), following_nodes _ _ _ _ _ _ _ f (length m.lab.now) m.labelled.rows)
 
 pub loop-s-preserved : goal.loop-s-preserved
 loop-s-preserved c =

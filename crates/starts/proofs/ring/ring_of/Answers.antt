@@ -19,4 +19,4 @@ returns-then-clocks-eq0 c =
 pub follow-requires : goal.follow-requires
 follow-requires c =
     let m = c.args.from in
-    (c.requires, c.clocks_asked-clocks.ensures.0, cut m.lab.now m.net.now.nodes c.clocks_asked-clocks.result m.labelled.rows c.clocks_asked-clocks.ensures.1)
+    (c.clocks_asked-clocks.ensures.0, cut m.lab.now m.net.now.nodes c.clocks_asked-clocks.result m.labelled.rows c.clocks_asked-clocks.ensures.1)
