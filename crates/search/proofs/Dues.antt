@@ -1,5 +1,4 @@
 -- Dues by level.
---   part_join           two parts that meet
 --   level_none, level_hit, level_miss, level_append     the dues of one level, by the parts of a list
 --   level_few           are no more than the list has
 --   next_hit, next_miss, level_front     with one due more, of the level or of another; those of a front are no more than all
@@ -12,7 +11,7 @@
 --   ranked_first        more levels leave the places of the lower ones
 --   ranked_holds        every due of a level below m is at some place
 -- By the laws of items sorted by key: the items are the places of the dues, the keys their levels.
-use Prim.Native.Nat.{ℕ, zero, suc, ◌+◌, ◌-◌, ◌/◌, ◌≤◌, ◌<◌}
+use Prim.Native.Nat.{ℕ, zero, suc, ◌+◌, ◌/◌, ◌≤◌, ◌<◌}
 use native.Mathlib.Omega.{arith}
 use native.Mathlib.Decide.{ℕ_discrete}
 use native.Mathlib.Numerals.{add-one}
@@ -21,22 +20,13 @@ use mathlib.Core.List.{List, [], ◌∷◌, ◌++◌, map, map-append, append-ni
 use borrow.Author.Tests.{eq-eqb, ne_eqb}
 use lib.ListN.{length, take, drop, length-map, length-append, get_or-append}
 use Rattle.std.proofs.lemmas.List.{take-append-drop}
-use lib.Seq.{take-suc, take-add, drop-drop}
+use lib.Seq.{take-suc}
 use Rattle.theory.specs.Clock.{gather}
 use Rattle.graph.specs.Columns.{at}
 use Rattle.graph.specs.inner.Sort.{group, sorted, Stands}
 use Rattle.graph.proofs.Sorted.{group_hit, group_miss, sorted_prefix, sorted_grows, sorted_place, sorted_holds, sorted_room}
 use Rattle.graph.proofs.Parts.{map_at}
-use Rattle.gates.specs.inner.Gates.{part}
 use Rattle.search.specs.inner.Rows.{of_level}
-
-pub part_join : (l : List ℕ) (lo x hi : ℕ) → lo ≤ x → x ≤ hi → part l lo hi ≡ part l lo x ++ part l x hi
-part_join l lo x hi h r =
-    let e : hi - lo ≡ (x - lo) + (hi - x) = omega arith in
-    let f : lo + (x - lo) ≡ x = omega arith in
-    ap (λ n. take n (drop lo l)) e
-    ∙ take-add (x - lo) (hi - x) (drop lo l)
-    ∙ ap (λ ys. part l lo x ++ take (hi - x) ys) (drop-drop (x - lo) lo l ∙ ap (λ n. drop n l) f)
 
 -- ── One level ───────────────────────────────────────────────────────────────────────────────
 

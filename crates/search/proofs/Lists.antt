@@ -9,7 +9,6 @@
 --   list_fulfils        where its choice gives what is due, the list of a choice fulfils
 --   list_least          and no other list of that choice that fulfils is preferred to it
 --   Tried c best        no list whose choice is below c, and that fulfils, is preferred to the best so far, which fulfils
---   tried_none          no choice and no list yet
 --   tried_on            some more choices, which do not give what is due
 --   tried_more          a choice that does, and the better of its list and the best so far
 --   tried_end           where no later list is preferred, the best so far is the best of all
@@ -142,9 +141,6 @@ pub record Unbeaten (best : Option ℕ) (d : ℕ) : Type 0 where
 pub record Tried (k : ℕ) (P : Program) (due : List ℕ) (total : ℕ) (fill : List (Option ℕ)) (c : ℕ) (best : Option ℕ) : Type 0 where
   pub fulfils : (x : ℕ) → best ≡ Some x → (x < 2 ^ (length fill + k)) × Fulfils k P due total fill x
   pub kept : (d : ℕ) → d < 2 ^ (length fill + k) → d % 2 ^ k < c → Fulfils k P due total fill d → Unbeaten best d
-
-pub tried_none : {k : ℕ} {P : Program} {due : List ℕ} {total : ℕ} {fill : List (Option ℕ)} → Tried k P due total fill 0 None
-tried_none = record { fulfils = λ x e. absurd (cc); kept = λ d h l f. absurd (let y : ⊥ = omega arith in y) }
 
 module _ {k : ℕ} {P : Program} {due : List ℕ} {total : ℕ} {fill : List (Option ℕ)} {c : ℕ} {best : Option ℕ} (t : Tried k P due total fill c best) where
   pub tried_on : (n : ℕ) → ((d : ℕ) → c ≤ d → d < n → ¬ GivesDues k P due total d) → Tried k P due total fill n best

@@ -1,6 +1,6 @@
 -- From rows back to what is due.
 --   solves_same         the best list by what the rows hold is the best by what is due
---   none_fillable, solves_choice     where nothing is filled a list is a choice
+--   solves_choice       where nothing is filled a list is a choice
 --   levels_cut          the levels of cells by a cut list
 --   plan_of             what the search is given
 use Prim.Native.Nat.{ℕ, suc, ◌+◌, ◌^◌, ◌/◌, ◌%◌, ◌<◌, ◌≤◌}
@@ -16,7 +16,7 @@ use Rattle.std.proofs.lemmas.List.{length-take-le, get_or-take}
 use Rattle.theory.proofs.moves.Prefers.{prefers_below}
 use Rattle.graph.specs.Columns.{at}
 use Rattle.search.specs.declared.choices.Extent.{Extent}
-use Rattle.search.specs.inner.Program.{Program, value_at, RightProgram, rows_of, total_of, GivesDues, Fillable, Fulfils, Solves, SolvesLists, Levelled}
+use Rattle.search.specs.inner.Program.{Program, value_at, RightProgram, rows_of, total_of, GivesDues, Fulfils, Solves, SolvesLists, Levelled}
 use Rattle.search.specs.inner.Rows.{Level, Rows, SameDues}
 use Rattle.search.specs.inner.States.{Plan}
 
@@ -30,9 +30,6 @@ module _ (k : ℕ) (P : Program) {due : List ℕ} {total : ℕ} {row : List ℕ}
   pub solves_same : (fill : List (Option ℕ)) (best : Option ℕ) → SolvesLists k P row dues fill best → SolvesLists k P due total fill best
   solves_same fill (Some c) r = (r.0, (due_holds (c % 2 ^ k) r.1.0, r.1.1), λ d l p w. r.2 d l p (row_holds (d % 2 ^ k) w.0, w.1))
   solves_same fill None r = λ d l w. r d l (row_holds (d % 2 ^ k) w.0, w.1)
-
-pub none_fillable : {cells k : ℕ} {P : Program} → RightProgram cells k P → Fillable cells k []
-none_fillable f = record { few = omega (arith, f.few_bits); cell = λ x i e. absurd (let z : None ≡ Some i = e in cc) }
 
 module _ (k : ℕ) (P : Program) (due : List ℕ) (total : ℕ) where
   unfilled : (c : ℕ) → c < 2 ^ k → Fulfils k P due total [] c ↔ GivesDues k P due total c

@@ -34,6 +34,9 @@ pub struct Columns<const CELLS: usize, const FIRSTS: usize, const OPERANDS: usiz
     pub kind: [u8; CELLS],
     pub first: [u16; FIRSTS],
     pub operand: [u16; OPERANDS],
+    pub ghost kind_rows: { length kind ≡ CELLS },
+    pub ghost first_rows: { length first ≡ FIRSTS },
+    pub ghost operand_rows: { length operand ≡ OPERANDS },
 }
 
 impl<const CELLS: usize, const FIRSTS: usize, const OPERANDS: usize> Columns<

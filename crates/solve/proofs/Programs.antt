@@ -1,13 +1,12 @@
 -- The program under the new numbers gives the same.
 --   mapped_same         what two parts of lists are mapped to, place by place
---   program_wired, program_bits     what the numbering asks of a program
+--   program_wired       what the numbering asks of a program
 --   operand_old         an operand of a cell is at the same place of the row of its old number
 --   new_program         it is a right program
 --   new_levelled        its cells are ordered by level
 --   value_same          a cell has the value that it had under its old number
 --   new_owes, holds_new, holds_old     the dues ask the same of the same cells
 --   new_fillable, fills_new, fills_old     the fillings ask for the same cells
---   search_ready        so it can be searched
 --   solves_old          the best list is the same
 -- Why values are the same, by induction on the new number: an operand is a chosen bit, which stays, or a cell, which has a smaller number.
 use Prim.Native.Nat.{ℕ, zero, suc, ◌+◌, ◌-◌, ◌^◌, ◌/◌, ◌%◌, ◌≤◌, ◌<◌}
@@ -22,9 +21,9 @@ use Rattle.theory.specs.Gate.{gate}
 use Rattle.theory.specs.Move.{digit}
 use Rattle.graph.specs.Columns.{at}
 use Rattle.search.specs.inner.Program.{Program, look, values_to, value_at, RightProgram, Owes, GivesDues, asked, Fillable, FillsTo, Fulfils, SolvesLists, Levelled}
-use Rattle.solve.specs.inner.Parts.{OperandsWired, BitsBelow}
+use Rattle.solve.specs.inner.Parts.{OperandsWired}
 use Rattle.solve.specs.inner.Numbers.{Ranked, ins, renumbered, ProgramRenumbered, Redue, refilled, Refill}
-use Rattle.search.proofs.Values.{look_bit, look_cell, values_at, value_gate}
+use Rattle.search.proofs.Values.{look_bit, look_cell, values_at, value_gate, either, earlier_of}
 use Rattle.solve.proofs.Renumbering.{moved_bit, moved_cell, renumbered_room}
 
 mapped_same : (f g : ℕ → ℕ) (xs ys : List ℕ) (n a b : ℕ) → a + n ≤ length xs → b + n ≤ length ys
@@ -45,11 +44,8 @@ program_wired f = record {
   first_rows = f.first_rows;
   rising = f.rising;
   in_rows = f.in_rows;
-  earlier = λ i j h a b. ⊎_elim (λ w. omega (arith, f.few_bits)) (λ w. w.1) (f.earlier i j h a b);
+  earlier = λ i j h a b. ⊎_elim (λ w. omega (arith, f.few_bits)) (λ w. w.1) (either f i j h a b);
 }
-
-pub program_bits : {cells k : ℕ} {P : Program} → RightProgram cells k P → BitsBelow cells k P.first P.operand
-program_bits f i j h a b l = ⊎_elim (λ w. w) (λ w. omega arith) (f.earlier i j h a b)
 
 module _ {cells k : ℕ} {P Q : Program} {id code levels : List ℕ} (f : RightProgram cells k P) (r : Ranked cells k P.first P.operand id code levels)
     (s : ProgramRenumbered cells P id code Q)
@@ -81,7 +77,7 @@ module _ {cells k : ℕ} {P Q : Program} {id code levels : List ℕ} (f : RightP
       )
 
   new_earlier : (q j : ℕ) → q < cells → at Q.first q ≤ j → j < at Q.first (suc q) → (at Q.operand j < k) ⊎ ((32 ≤ at Q.operand j) × (at Q.operand j < 32 + q))
-  new_earlier q j h a b = go (f.earlier (at code q) (old q j) (cell q h) p.0 p.1)
+  new_earlier q j h a b = go (either f (at code q) (old q j) (cell q h) p.0 p.1)
     where
       p : (at P.first (at code q) ≤ old q j) × (old q j < at P.first (suc (at code q)))
       p = old_in q j h a b
@@ -94,7 +90,7 @@ module _ {cells k : ℕ} {P Q : Program} {id code levels : List ℕ} (f : RightP
           let l = r.sources (at code q) (old q j) (cell q h) p.0 p.1 w.0 in
           inr (omega (arith, e), omega (arith, e, r.paired.number q h))
 
-  new_program : cells ≤ length Q.kind → suc cells ≤ length Q.first → RightProgram cells k Q
+  pub new_program : cells ≤ length Q.kind → suc cells ≤ length Q.first → RightProgram cells k Q
   new_program kind_rows first_rows = record {
     few_bits = f.few_bits;
     few_cells = f.few_cells;
@@ -105,14 +101,14 @@ module _ {cells k : ℕ} {P Q : Program} {id code levels : List ℕ} (f : RightP
     few_ins = λ q h. omega (arith, s.counts q h, f.few_ins (at code q) (cell q h));
     selectors = λ q h e. omega (arith, s.counts q h, f.selectors (at code q) (cell q h) (sym (s.same_kind q h) ∙ e));
     in_rows = new_rows;
-    earlier = new_earlier;
+    earlier = λ q j h a b. earlier_of k (at Q.operand j) q f.few_bits (new_earlier q j h a b);
   }
 
   new_sees : (m q j : ℕ) → m ≤ k → q < at levels (suc m) → at Q.first q ≤ j → j < at Q.first (suc q) → at Q.operand j < 32 → at Q.operand j < m
   new_sees m q j h l a b w =
       let c : q < cells = omega (arith, r.within (suc m) (omega arith)) in
       let p = old_in q j c a b in
-      go c p.0 p.1 (f.earlier (at code q) (old q j) (cell q c) p.0 p.1)
+      go c p.0 p.1 (either f (at code q) (old q j) (cell q c) p.0 p.1)
     where
       go : q < cells → at P.first (at code q) ≤ old q j → old q j < at P.first (suc (at code q))
           → (at P.operand (old q j) < k) ⊎ ((32 ≤ at P.operand (old q j)) × (at P.operand (old q j) < 32 + at code q)) → at Q.operand j < m
@@ -121,7 +117,7 @@ module _ {cells k : ℕ} {P Q : Program} {id code levels : List ℕ} (f : RightP
           omega (arith, operand_old q j c a b, moved_bit id (at P.operand (old q j)) small, r.sees m q (old q j) h l u v small)
       go c u v (inr y) = absurd (let z : ⊥ = omega (arith, operand_old q j c a b, moved_cell id (at P.operand (old q j)) y.0) in z)
 
-  new_levelled : suc k < length levels → Levelled cells k Q levels
+  pub new_levelled : suc k < length levels → Levelled cells k Q levels
   new_levelled rows = record { rows = rows; none = r.none; climbs = r.climbs; whole = r.whole; sees = new_sees }
 
   -- ── The same values ─────────────────────────────────────────────────────────────────────────
@@ -139,7 +135,7 @@ module _ {cells k : ℕ} {P Q : Program} {id code levels : List ℕ} (f : RightP
     unfolding value new_value
     look_same q t h l before =
         ap (look k c (values_to Q k c q)) (s.same_operand q t h l)
-        ∙ go (f.earlier (at code q) (at P.first (at code q) + t) (cell q h) (omega arith) (omega arith))
+        ∙ go (either f (at code q) (at P.first (at code q) + t) (cell q h) (omega arith) (omega arith))
       where
         go : (at P.operand (at P.first (at code q) + t) < k) ⊎ ((32 ≤ at P.operand (at P.first (at code q) + t)) × (at P.operand (at P.first (at code q) + t) < 32 + at code q))
             → look k c (values_to Q k c q) (renumbered id (at P.operand (at P.first (at code q) + t)))
@@ -200,7 +196,7 @@ module _ {cells k : ℕ} {P Q : Program} {id code levels : List ℕ} (f : RightP
         go (Some i) z = let y : Some j ≡ Some (at id i) = sym e ∙ q x ∙ ap (refilled id) z in record { cell = i; asks = z; is = cc }
         go None z = absurd (let y : Some j ≡ None = sym e ∙ q x ∙ ap (refilled id) z in cc)
 
-    new_fillable : Fillable cells k fills
+    pub new_fillable : Fillable cells k fills
     new_fillable = record { few = omega (arith, a.few); cell = λ x j e. let b = before_of x j e in omega (arith, b.is, (r.paired.each b.cell (a.cell x b.cell b.asks)).0) }
 
     fills_old : (c : ℕ) → FillsTo k Q fills c → FillsTo k P fill c
@@ -221,7 +217,7 @@ module _ {cells k : ℕ} {P Q : Program} {id code levels : List ℕ} (f : RightP
     due_bit : (x : ℕ) → x < at begin edges → at dues x % 2 ≡ at due x % 2
     due_bit x h = omega (arith, d x h)
 
-    new_owes : at begin edges ≤ length dues → Owes cells dues begin edges
+    pub new_owes : at begin edges ≤ length dues → Owes cells dues begin edges
     new_owes rows = record {
       begin_rows = o.begin_rows;
       due_rows = rows;
@@ -247,8 +243,3 @@ module _ {cells k : ℕ} {P Q : Program} {id code levels : List ℕ} (f : RightP
       pub solves_old : (c : Option ℕ) → SolvesLists k Q dues (at begin edges) fills c → SolvesLists k P due (at begin edges) fill c
       solves_old (Some c) w = (rw (← same) w.0, (holds_old (c % 2 ^ k) w.1.0, fills_old fills a r' same c w.1.1), λ e l p v. w.2 e (rw same l) p (fulfils e v))
       solves_old None w = λ e l v. w e (rw same l) (fulfils e v)
-
-      -- In the words of `search`, which counts the cells by the end of the last level.
-      pub search_ready : cells ≤ length Q.kind → suc cells ≤ length Q.first → suc k < length levels → at begin edges ≤ length dues
-          → let n = at levels (suc k) in RightProgram n k Q × Levelled n k Q levels × Owes n dues begin edges × Fillable n k fills
-      search_ready kind_rows first_rows level_rows due_rows = rw r.whole (new_program kind_rows first_rows, new_levelled level_rows, new_owes due_rows, new_fillable fills a r' same)

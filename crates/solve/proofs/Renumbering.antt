@@ -4,21 +4,26 @@
 --   renumberable               the operands of a cell have numbers
 --   renumbered_room            there is room for the operands of the next cell
 --   renumbered_more            one cell more
+--   renumbered_cut             the kinds are a part of their list
 use Prim.Native.Nat.{ℕ, zero, suc, ◌+◌, ◌-◌, ◌*◌, ◌/◌, ◌%◌, ◌≤◌, ◌<◌}
 use native.Mathlib.Omega.{arith}
-use native.Mathlib.Decide.{ℕ_discrete}
+use native.Mathlib.Decide.{ℕ_discrete, dec_lt}
 use mathlib.Core.Path.{◌≡◌, sym, subst, ap, ◌∙◌}
 use mathlib.Core.List.{List}
 use borrow.Author.Tests.{lt-ltb, le-ltb}
 use lib.ListN.{length, take, set, length-take}
 use lib.Seq.{get_or-take, get_or-set_same, get_or-set_other}
+use Rattle.std.specs.Prelude.{Option, None}
+use Rattle.std.proofs.lemmas.List.{length-take-le, get_or_past}
 use Rattle.graph.specs.Columns.{at}
 use Rattle.theory.specs.Move.{sum}
 use Rattle.theory.proofs.numbers.Sums.{sum_once}
-use Rattle.search.specs.inner.Program.{Program, program_of, operands_of}
+use Rattle.search.specs.inner.Program.{Program, program_of, operands_of, asked}
 use Rattle.search.proofs.Putting.{climb}
+use Rattle.search.proofs.Parts.{put_before, put_within}
+use borrow.Rule.Slice.PartMut.{put_mid}
 use Rattle.solve.specs.inner.Parts.{OperandsWired}
-use Rattle.solve.specs.inner.Numbers.{Paired, ins, renumbered, Renumberable, Copied, ProgramRenumbered, Redue}
+use Rattle.solve.specs.inner.Numbers.{Paired, ins, renumbered, Renumberable, ProgramRenumbered, Redue, refilled, Refill}
 use Rattle.solve.proofs.Spanning.{seen_length, seen_at, seen_each}
 
 -- ── Operands and dues, one by one ───────────────────────────────────────────────────────────
@@ -35,6 +40,16 @@ moved_cell id x h = rw (le-ltb x 32 h)
 pub redue_cut : (id due dues : List ℕ) (n : ℕ) → n ≤ length due → Redue id (length (take n due)) (take n due) dues → Redue id n due dues
 redue_cut id due dues n h d x l =
     d x (omega (arith, length-take n due)) ∙ ap (λ y. at id (y / 2) * 2 + y % 2) (get_or-take n due x 0 l)
+
+-- What asks for a filling stands in the first places.
+pub refill_cut : (id : List ℕ) (fill fills : List (Option ℕ)) → length fill ≤ length fills → Refill id fill fills → Refill id fill (take (length fill) fills)
+refill_cut id fill fills h r x = go (dec_lt x (length fill))
+  where
+    go : Dec (x < length fill) → asked (take (length fill) fills) x ≡ refilled id (asked fill x)
+    go (yes l) = get_or-take (length fill) fills x None l ∙ r x
+    go (no l) =
+        get_or_past (take (length fill) fills) x None (omega (arith, length-take-le (length fill) fills h))
+        ∙ ap (refilled id) (sym (get_or_past fill x None (omega arith)))
 
 -- ── Cells, one by one ───────────────────────────────────────────────────────────────────────
 
@@ -80,11 +95,11 @@ module _ {n : ℕ} {P Q : Program} {id code : List ℕ} (s : ProgramRenumbered n
       total zero l = omega arith
       total (suc m) l = omega (arith, total m (omega arith), rising m l)
 
-  module _ (r : ℕ) (next : List ℕ) (kind-room : n < length Q.kind) (first-room : n + 1 < length Q.first) (in_rows : at P.first (suc (at code n)) ≤ length P.operand)
-      (e : r ≡ at Q.first n + length (operands_of P.first P.operand (at code n)))
-      (t : Copied (operands_of P.first P.operand (at code n)) id 0 (length (operands_of P.first P.operand (at code n))) (at Q.first n) Q.operand next) where
-    own_length : length (operands_of P.first P.operand (at code n)) ≡ ins P.first (at code n)
-    own_length = seen_length P.first P.operand (at code n) in_rows
+  module _ (r : ℕ) (own : List ℕ) (kind-room : n < length Q.kind) (first-room : n + 1 < length Q.first) (in_rows : at P.first (suc (at code n)) ≤ length P.operand)
+      (e : r ≡ at Q.first n + ins P.first (at code n)) (fits : r ≤ length Q.operand) (size : length own ≡ ins P.first (at code n))
+      (put : (t : ℕ) → t < ins P.first (at code n) → at own t ≡ renumbered id (at (operands_of P.first P.operand (at code n)) t)) where
+    abbrev next : List ℕ
+    next = put_mid (at Q.first n) (ins P.first (at code n)) Q.operand own
 
     first_old : (q : ℕ) → q ≤ n → at (set Q.first (n + 1) r) q ≡ at Q.first q
     first_old q h = get_or-set_other Q.first (n + 1) q r 0 (λ z. omega arith)
@@ -98,7 +113,7 @@ module _ {n : ℕ} {P Q : Program} {id code : List ℕ} (s : ProgramRenumbered n
     kind_more q h (no z) = get_or-set_other Q.kind n q (at P.kind (at code n)) 0 z ∙ s.same_kind q (omega arith)
 
     counts_more : (q : ℕ) → q < n + 1 → Dec (q ≡ n) → at (set Q.first (n + 1) r) (suc q) ≡ at (set Q.first (n + 1) r) q + ins P.first (at code q)
-    counts_more q h (yes z) = omega (arith, own_length, first_new q z, first_old q (omega arith), ap (at Q.first) z, ap (λ p. ins P.first (at code p)) z)
+    counts_more q h (yes z) = omega (arith, first_new q z, first_old q (omega arith), ap (at Q.first) z, ap (λ p. ins P.first (at code p)) z)
     counts_more q h (no z) = omega (arith, first_old q (omega arith), first_old (suc q) (omega arith), s.counts q (omega arith))
 
     operand_more : (q j : ℕ) → q < n + 1 → j < ins P.first (at code q) → Dec (q ≡ n)
@@ -106,12 +121,15 @@ module _ {n : ℕ} {P Q : Program} {id code : List ℕ} (s : ProgramRenumbered n
     operand_more q j h l (yes z) =
         let w : j < ins P.first (at code n) = subst (λ p. j < ins P.first (at code p)) z l in
         ap (λ p. at next (p + j)) (first_old q (omega arith) ∙ ap (at Q.first) z)
-        ∙ t.added j (omega (arith, own_length))
-        ∙ ap (renumbered id) (let y : 0 + j ≡ j = omega arith in ap (at (operands_of P.first P.operand (at code n))) y ∙ seen_at P.first P.operand (at code n) in_rows j (omega (arith, own_length)))
+        ∙ put_within (at Q.first n) (ins P.first (at code n)) Q.operand own size (omega arith) (at Q.first n + j) (omega arith) (omega arith)
+        ∙ ap (at own) (let y : at Q.first n + j - at Q.first n ≡ j = omega arith in y)
+        ∙ put j w
+        ∙ ap (renumbered id) (seen_at P.first P.operand (at code n) in_rows j (omega (arith, seen_length P.first P.operand (at code n) in_rows)))
         ∙ ap (λ p. renumbered id (at P.operand (at P.first (at code p) + j))) (sym z)
     operand_more q j h l (no z) =
         let b : at Q.first q + j < at Q.first n = omega (arith, s.counts q (omega arith), rises (suc q) n (omega arith) (omega arith)) in
-        ap (λ p. at next (p + j)) (first_old q (omega arith)) ∙ t.kept (at Q.first q + j) b ∙ s.same_operand q j (omega arith) l
+        ap (λ p. at next (p + j)) (first_old q (omega arith))
+        ∙ put_before (at Q.first n) (ins P.first (at code n)) Q.operand own size (omega arith) (at Q.first q + j) b ∙ s.same_operand q j (omega arith) l
 
     pub renumbered_more : ProgramRenumbered (n + 1) P id code (program_of (set Q.kind n (at P.kind (at code n))) (set Q.first (n + 1) r) next)
     renumbered_more = record {
@@ -120,3 +138,7 @@ module _ {n : ℕ} {P Q : Program} {id code : List ℕ} (s : ProgramRenumbered n
       counts = λ q h. counts_more q h (ℕ_discrete q n);
       same_operand = λ q j h l. operand_more q j h l (ℕ_discrete q n);
     }
+
+pub renumbered_cut : {n : ℕ} {P : Program} {id code kind first operand : List ℕ} → ProgramRenumbered n P id code (program_of kind first operand)
+    → ProgramRenumbered n P id code (program_of (take n kind) first operand)
+renumbered_cut {n} {kind = kind} s = record { none = s.none; same_kind = λ q h. get_or-take n kind q 0 h ∙ s.same_kind q h; counts = s.counts; same_operand = s.same_operand }

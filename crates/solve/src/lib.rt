@@ -3,114 +3,82 @@
 // Internal: asks of the caller a right program.
 #![tactic(auto)]
 
-mod cells;
 mod numbers;
 mod renumber;
 mod spans;
 
 ghost use Rattle.std.specs.Prelude.{ℕ, suc, ◌≤◌, ◌<◌, length};
 ghost use Rattle.graph.specs.Columns.{at};
-ghost use Rattle.search.specs.inner.Program.{program_of, RightProgram, Owes, Fillable, Solves, SolvesLists};
+ghost use Rattle.search.specs.inner.Program.{rows_of, total_of, Owes, Solves};
+ghost use Rattle.search.specs.inner.Problem.{columns_of, SolvesProblem};
 
-use crate::cells::Cells;
 use crate::numbers::Numbers;
-use crate::renumber::{Columns, renumber_dues, renumber_fill};
+use crate::renumber::{renumber, renumbered_dues, renumbered_fill};
 use crate::spans::spans;
-use search::{Program, search_lists};
+use search::{
+    CELLS, Columns, DUES, FEW_CELLS, FEW_DUES, FEW_FIRSTS, FEW_OPERANDS, FIRSTS, OPERANDS, Owed,
+    Problem, Program, search_lists,
+};
 
-// Cells, of 512 nodes at 24 clocks each; where the operands of each begin and those of the last end; all operands, of 1,024 edges at 24 clocks each.
-const CELLS: usize = 12288;
+// A list has at most so many bits.
+const FILLINGS: usize = 24;
 
-const FIRSTS: usize = CELLS + 1;
-
-const OPERANDS: usize = 24576;
-
-// So of small searches.
-const FEW_CELLS: usize = 512;
-
-const FEW_FIRSTS: usize = FEW_CELLS + 1;
-
-const FEW_OPERANDS: usize = 2048;
-
-// A cell without a number (in `Numbers`, which says why it is no Option).
-const NONE: u16 = 12288;
-
-// Where the levels 0 to 24 begin, and where the last ends.
-const LEVELS: usize = 26;
-
-// The search in columns for at most so many cells and operands: short columns are quickly cleared.
-fn solve_in<const CELLS: usize, const FIRSTS: usize, const OPERANDS: usize>(
-    program: Program<'_>,
-    cells: usize,
-    k: u32,
-    due: &mut [u16],
-    begin: &[u16],
-    edges: usize,
-    fill: &mut [Option<u16>],
+// The search in columns for at most so many cells, operands and dues: short columns are quickly cleared.
+fn solve_in<const CELLS: usize, const FIRSTS: usize, const OPERANDS: usize, const DUES: usize>(
+    problem: Problem<'_>,
 ) -> Option<u32>
-    requires right_program { RightProgram cells k (program_of program.kind.now program.first.now program.operand.now) }
-    requires owes { Owes cells due.old begin.now edges }
-    requires fillable { Fillable cells k fill.old }
-    requires room { (cells ≤ CELLS) × (cells < FIRSTS) × (CELLS < 65536) × (FIRSTS < 65536) × (OPERANDS < 65536)
-        × ((i : ℕ) → i < cells → at program.first.now (suc i) ≤ OPERANDS) }
-    ensures { SolvesLists k (program_of program.entry.kind.now program.entry.first.now program.entry.operand.now)
-        due.old (at begin.now edges) fill.old result }
+    requires room { (length problem.program.kind.now ≤ CELLS) × (length problem.program.kind.now < FIRSTS)
+        × ((i : ℕ) → i < length problem.program.kind.now → at problem.program.first.now (suc i) ≤ OPERANDS) × (total_of problem.owed.begin.now ≤ DUES) }
+    requires few { (CELLS < 65536) × (FIRSTS < 65536) × (OPERANDS < 65536) × (DUES < 65536) }
+    ensures { SolvesProblem problem.entry result }
 {
-    let due = &mut due[..begin[edges] as usize];
-    let row = Cells {
-        count: cells,
-        first: program.first,
-        operand: program.operand,
-    };
-    let span: [u16; CELLS] = spans(row);
-    let mut numbers: Numbers<'_, CELLS> = Numbers::new(row, &span);
-    let levels = numbers.number_levels(k, due);
-    renumber_dues(due, &numbers.id);
-    renumber_fill(fill, &numbers.id);
+    let program = problem.program;
+    let dues = problem.dues();
+    let span: [u16; CELLS] = spans(program);
+    let mut numbers: Numbers<'_, '_, CELLS> = Numbers::new(program, &span);
+    let levels = numbers.number_levels(dues);
     let mut columns: Columns<CELLS, FIRSTS, OPERANDS> = Columns::new();
-    columns.renumber(program.kind, row, &numbers.id, &numbers.code);
-    search_lists(columns.program(), levels, k, due, begin, edges, fill)
+    renumber(program, &numbers.id, &numbers.code, &mut columns);
+    let due: [u16; DUES] = renumbered_dues(dues, &numbers.id);
+    let owed = Owed {
+        due: &due,
+        begin: problem.owed.begin,
+    };
+    let fill: [Option<u16>; FILLINGS] = renumbered_fill(problem.fill, &numbers.id);
+    let anew = Problem {
+        program: columns.program(program.kind.len(), program.bits),
+        owed,
+        fill: &fill[..problem.fill.len()],
+    };
+    search_lists(anew, levels)
 }
 
-// The best list: fillings, each the value of its cell in `fill`, then a choice of k bits under which every cell gives what is due of it; None, where no list
-// does. The dues and `fill` are left with other numbers of cells.
-pub fn solve_lists(
-    program: Program<'_>,
-    cells: usize,
-    k: u32,
-    due: &mut [u16],
-    begin: &[u16],
-    edges: usize,
-    fill: &mut [Option<u16>],
-) -> Option<u32>
-    requires right_program { RightProgram cells k (program_of program.kind.now program.first.now program.operand.now) }
-    requires owes { Owes cells due.old begin.now edges × (length program.operand.now ≤ 24576) }
-    requires fillable { Fillable cells k fill.old }
-    ensures { SolvesLists k (program_of program.entry.kind.now program.entry.first.now program.entry.operand.now)
-        due.old (at begin.now edges) fill.old result }
+// The best list: fillings, each the value of the cell that it asks for, then a choice under which every cell gives what is due of it; None, where no list does.
+pub fn solve_lists(problem: Problem<'_>) -> Option<u32>
+    requires { length problem.program.operand.now ≤ 24576 }
+    ensures { SolvesProblem problem.entry result }
 {
-    if cells <= FEW_CELLS && program.first[cells] as usize <= FEW_OPERANDS {
-        return solve_in::<FEW_CELLS, FEW_FIRSTS, FEW_OPERANDS>(
-            program, cells, k, due, begin, edges, fill,
-        );
+    let program = problem.program;
+    let cells = program.kind.len();
+    if cells <= FEW_CELLS
+        && program.first[cells] as usize <= FEW_OPERANDS
+        && problem.dues().len() <= FEW_DUES
+    {
+        return solve_in::<FEW_CELLS, FEW_FIRSTS, FEW_OPERANDS, FEW_DUES>(problem);
     }
-    solve_in::<CELLS, FIRSTS, OPERANDS>(program, cells, k, due, begin, edges, fill)
+    solve_in::<CELLS, FIRSTS, OPERANDS, DUES>(problem)
 }
 
-// The best choice of k bits under which every cell gives what is due of it: nothing is filled. The dues are left with other numbers of cells.
-pub fn solve(
-    program: Program<'_>,
-    cells: usize,
-    k: u32,
-    due: &mut [u16],
-    begin: &[u16],
-    edges: usize,
-) -> Option<u32>
-    requires right_program { RightProgram cells k (program_of program.kind.now program.first.now program.operand.now) }
-    requires owes { Owes cells due.old begin.now edges × (length program.operand.now ≤ 24576) }
-    ensures { Solves k (program_of program.entry.kind.now program.entry.first.now program.entry.operand.now)
-        due.old (at begin.now edges) result }
+// The best choice under which every cell gives what is due of it: nothing is filled, so a list is a choice.
+pub fn solve(program: Program<'_>, owed: Owed<'_>) -> Option<u32>
+    requires owes { Owes (length program.kind.now) owed.due.now owed.begin.now (rows_of owed.begin.now) }
+    requires few { length program.operand.now ≤ 24576 }
+    ensures { Solves program.entry.bits (columns_of program.entry) owed.entry.due.now (total_of owed.entry.begin.now) result }
 {
-    let mut fill: [Option<u16>; 0] = [];
-    solve_lists(program, cells, k, due, begin, edges, &mut fill)
+    let fill: [Option<u16>; 0] = [];
+    solve_lists(Problem {
+        program,
+        owed,
+        fill: &fill,
+    })
 }

@@ -1,12 +1,13 @@
-// The program under the new numbers of its cells: `id` has a cell's number, `code` a number's cell.
+// The program under the new numbers of its cells: `id` has a cell's number, `code` a number's cell. An operand and a due are numbers, as in the search.
 // Private to the crate: `solve` hands on the numbers that it asks for.
-ghost use Rattle.std.specs.Prelude.{◌≡◌, ℕ, suc, ◌+◌, ◌-◌, ◌*◌, ◌/◌, ◌%◌, ◌≤◌, ◌<◌, length};
+ghost use Rattle.std.specs.Prelude.{◌≡◌, Option, ℕ, suc, ◌+◌, ◌-◌, ◌*◌, ◌/◌, ◌%◌, ◌≤◌, ◌<◌, length};
 ghost use Rattle.graph.specs.Columns.{at};
 ghost use Rattle.search.specs.inner.Program.{program_of, asked};
-ghost use Rattle.solve.specs.inner.Numbers.{Paired, renumbered, Renumberable, Copied, ProgramRenumbered, Redue, refilled, Refill};
+ghost use Rattle.search.specs.inner.Problem.{columns_of};
+ghost use Rattle.solve.specs.inner.Numbers.{Paired, renumbered, Renumberable, ProgramRenumbered, Redue, refilled, Refill};
 
-use crate::cells::Cells;
-use search::Program;
+use graph::column;
+use search::{BITS, Columns, Program};
 
 // An operand: a chosen bit stays, a cell has its new number.
 #[tactic(auto, unfolding(crate::specs::inner::Numbers::renumbered))]
@@ -14,83 +15,56 @@ fn renumbered(x: u16, id: &[u16]) -> u16
     requires { Renumberable id.now x }
     ensures { result ≡ renumbered id.now x }
 {
-    if x < 32 { x } else { 32 + id[x as usize - 32] }
+    if x < BITS {
+        x
+    } else {
+        BITS + id[(x - BITS) as usize]
+    }
 }
 
-// The columns of a program, with room for so many cells and operands.
-#[derive(Drop)]
-pub struct Columns<const CELLS: usize, const FIRSTS: usize, const OPERANDS: usize> {
-    pub kind: [u8; CELLS],
-    pub first: [u16; FIRSTS],
-    pub operand: [u16; OPERANDS],
+// What a cell sees, put where it has its operands.
+fn put_operands(operands: &[u16], id: &[u16], operand: &mut [u16])
+    requires room { length operands.now ≤ length operand.old }
+    requires numbered { (t : ℕ) → t < length operands.now → Renumberable id.now (at operands.now t) }
+    ensures { (t : ℕ) → t < length operands.now → at operand.new t ≡ renumbered id.now (at operands.now t) }
+{
+    for (t, x) in operands.iter().enumerate() {
+        operand[t] = renumbered(*x, id);
+    }
 }
 
-impl<const CELLS: usize, const FIRSTS: usize, const OPERANDS: usize> Columns<
-    CELLS,
-    FIRSTS,
-    OPERANDS,
-> {
-    // All 0.
-    pub fn new() -> Self {
-        Columns {
-            kind: [0; CELLS],
-            first: [0; FIRSTS],
-            operand: [0; OPERANDS],
-        }
-    }
-
-    // What a cell sees, put from `start` on.
-    fn put_operands(&mut self, operands: &[u16], id: &[u16], start: usize)
-        requires room { start + length operands.now ≤ OPERANDS }
-        requires numbered { (t : ℕ) → t < length operands.now → Renumberable id.now (at operands.now t) }
-        ensures { (self.new.kind ≡ self.old.kind) × (self.new.first ≡ self.old.first)
-            × Copied operands.now id.now 0 (length operands.now) start self.old.operand self.new.operand }
-    {
-        for (t, x) in operands.iter().enumerate() {
-            self.operand[start + t] = renumbered(*x, id);
-        }
-    }
-
-    // The columns together.
-    pub fn program(&self) -> Program<'_>
-        ensures columns { program_of result.kind.now result.first.now result.operand.now ≡ program_of self.now.kind self.now.first self.now.operand }
-        ensures rows { (length result.kind.now ≡ CELLS) × (length result.first.now ≡ FIRSTS) × (length result.operand.now ≡ OPERANDS) }
-    {
-        Program {
-            kind: &self.kind,
-            first: &self.first,
-            operand: &self.operand,
-        }
-    }
-
-    // The cells in the order of their new numbers.
-    pub fn renumber(&mut self, kind: &[u8], cells: Cells<'_>, id: &[u16], code: &[u16])
-        requires paired { Paired cells.count id.now code.now }
-        requires room { (cells.count ≤ length kind.now) × (cells.count ≤ CELLS) × (suc cells.count ≤ FIRSTS) × (OPERANDS < 65536)
-            × ((i : ℕ) → i < cells.count → at cells.first.now (suc i) ≤ OPERANDS) }
-        ensures { ProgramRenumbered cells.entry.count (program_of kind.now cells.entry.first.now cells.entry.operand.now)
-            id.now code.now (program_of self.new.kind self.new.first self.new.operand) }
-    {
-        self.first[0] = 0;
-        for q in 0..cells.count {
-            let i = code[q] as usize;
-            let operands = cells.operands(i);
-            let start = self.first[q] as usize;
-            self.kind[q] = kind[i];
-            self.put_operands(operands, id, start);
-            self.first[q + 1] = (start + operands.len()) as u16;
-        }
+// The cells in the order of their new numbers.
+pub fn renumber<const CELLS: usize, const FIRSTS: usize, const OPERANDS: usize>(
+    program: Program<'_>,
+    id: &[u16],
+    code: &[u16],
+    to: &mut Columns<CELLS, FIRSTS, OPERANDS>,
+)
+    requires paired { Paired (length program.kind.now) id.now code.now }
+    requires room { (length program.kind.now ≤ CELLS) × (length program.kind.now < FIRSTS) × (OPERANDS < 65536)
+        × ((i : ℕ) → i < length program.kind.now → at program.first.now (suc i) ≤ OPERANDS) }
+    ensures { ProgramRenumbered (length program.entry.kind.now) (columns_of program.entry) id.now code.now (program_of to.new.kind to.new.first to.new.operand) }
+{
+    to.first[0] = 0;
+    for q in 0..program.kind.len() {
+        let i = code[q] as usize;
+        let operands = program.operands(i);
+        let start = to.first[q] as usize;
+        let end = start + operands.len();
+        to.kind[q] = program.kind[i];
+        let operand = &mut to.operand[..];
+        put_operands(operands, id, &mut operand[start..end]);
+        to.first[q + 1] = end as u16;
     }
 }
 
 // The dues, each of the same cell under its new number.
-pub fn renumber_dues(due: &mut [u16], id: &[u16])
-    requires { (x : ℕ) → x < length due.old → (at due.old x / 2 < length id.now) × (at id.now (at due.old x / 2) < 12288) }
-    ensures { Redue id.now (length due.old) due.old due.new }
+pub fn renumbered_dues<const DUES: usize>(due: &[u16], id: &[u16]) -> [u16; DUES]
+    requires room { length due.now ≤ DUES }
+    requires numbered { (x : ℕ) → x < length due.now → (at due.now x / 2 < length id.now) × (at id.now (at due.now x / 2) < 12288) }
+    ensures { Redue id.now (length due.now) due.now result }
 {
-    for x in due.iter_mut() {
-        *x = id[(*x / 2) as usize] * 2 + *x % 2;
-    }
+    column(due.len(), 0, |x| id[(due[x] / 2) as usize] * 2 + due[x] % 2)
 }
 
 // What asks for a filling: nothing, or a cell, which has its new number.
@@ -102,11 +76,10 @@ fn refilled(place: Option<u16>, id: &[u16]) -> Option<u16>
 }
 
 // What asks for fillings, each the same cell under its new number.
-pub fn renumber_fill(fill: &mut [Option<u16>], id: &[u16])
-    requires { (x i : ℕ) → asked fill.old x ≡ Some i → i < length id.now }
-    ensures { Refill id.now fill.old fill.new }
+pub fn renumbered_fill<const N: usize>(fill: &[Option<u16>], id: &[u16]) -> [Option<u16>; N]
+    requires room { length fill.now ≤ N }
+    requires numbered { (x i : ℕ) → asked fill.now x ≡ Some i → i < length id.now }
+    ensures { Refill id.now fill.now result }
 {
-    for place in fill.iter_mut() {
-        *place = refilled(*place, id);
-    }
+    column(fill.len(), None, |x| refilled(fill[x], id))
 }

@@ -2,17 +2,21 @@
 // Private to the crate: `solve` hands on the right program that it asks for.
 ghost use Rattle.std.specs.Prelude.{◌≡◌, ℕ, ◌-◌, ◌≤◌, ◌<◌, length};
 ghost use Rattle.graph.specs.Columns.{at};
-ghost use Rattle.solve.specs.inner.Parts.{depth, Most, BitsBelow, Spans};
+ghost use Rattle.solve.specs.inner.Parts.{depth, Most, Spans};
 
-use crate::cells::Cells;
+use search::{BITS, Program};
 
-// How many an operand depends on: a chosen bit on those up to it, a cell on its span.
+// How many an operand depends on: a chosen bit on those up to it, a cell on its span. (An operand is a number, as in the search.)
 #[tactic(auto, unfolding(crate::specs::inner::Parts::depth))]
 fn reach_of(x: u16, span: &[u16]) -> u16
     requires { 32 ≤ x → x - 32 < length span.now }
     ensures { result ≡ depth span.now x }
 {
-    if x < 32 { x + 1 } else { span[x as usize - 32] }
+    if x < BITS {
+        x + 1
+    } else {
+        span[(x - BITS) as usize]
+    }
 }
 
 // How many a cell depends on: the most that one of its operands does.
@@ -28,14 +32,13 @@ fn span_of(operands: &[u16], span: &[u16]) -> u16
 }
 
 // How many each cell depends on, by its operands, which come before it.
-pub fn spans<const CELLS: usize>(cells: Cells<'_>) -> [u16; CELLS]
-    requires { cells.count ≤ CELLS }
-    ensures { (k : ℕ) → BitsBelow cells.entry.count k cells.entry.first.now cells.entry.operand.now
-        → Spans k cells.entry.first.now cells.entry.operand.now result cells.entry.count }
+pub fn spans<const CELLS: usize>(program: Program<'_>) -> [u16; CELLS]
+    requires { length program.kind.now ≤ CELLS }
+    ensures { Spans program.entry.bits program.entry.first.now program.entry.operand.now result (length program.entry.kind.now) }
 {
     let mut span = [0u16; CELLS];
-    for i in 0..cells.count {
-        span[i] = span_of(cells.operands(i), &span);
+    for i in 0..program.kind.len() {
+        span[i] = span_of(program.operands(i), &span);
     }
     span
 }

@@ -5,7 +5,6 @@
 --   Layered             the level of a cell is no lower than that of a cell that it needs
 --   MissingCell, Missing     a cell of the same level that cell i needs and that has no number yet; that cell, or that there is none
 --   Numbered            n numbers are given: to all cells of levels below m and some of level m, each after what it needs
---   LevelNumbered       all cells of level m have numbers
 --   Waiting             a stack of h cells that wait for their numbers, each needed by the one below it; cell i is at the bottom
 --   LevelsBegun         levels below m begin where they should
 --   Paired              every cell has a number below `cells`, and every such number its cell
@@ -13,13 +12,11 @@
 --   ins first i         how many operands cell i has
 --   renumbered id x     the operand x under the new numbers
 --   Renumberable        the operand x is a chosen bit or a cell that has a number
---   Copied              the operands at the places from lo up to hi of one program are, renumbered, those of another from `start` on
 --   ProgramRenumbered          the program of the first n cells under the new numbers
 --   Redue               the dues under the new numbers
 --   refilled, Refill    what asks for a filling under the new numbers, and for all of them
 use Rattle.std.specs.Prelude.{Option, Some, None, ◌≡◌, cond, List, ℕ, suc, ◌+◌, ◌-◌, ◌*◌, ◌/◌, ◌%◌, ◌<◌, ◌≤◌, ltb, Option, Some, None, length}
 use Rattle.graph.specs.Columns.{at}
-use Rattle.graph.specs.inner.Lists.{Appended}
 use Rattle.search.specs.inner.Program.{Program, asked}
 use Rattle.solve.specs.inner.Parts.{OperandsWired}
 
@@ -62,9 +59,6 @@ pub record Numbered (L : Layers) (m n : ℕ) (id code : List ℕ) : Type 0 where
   pub lower : (i : ℕ) → i < L.cells → at L.span i < m → at id i < n
   pub level : (q : ℕ) → q < n → at L.span (at code q) ≤ m
 
-abbrev pub LevelNumbered : Layers → ℕ → ℕ → List ℕ → Type 0
-LevelNumbered L m n id = (i : ℕ) → i < L.cells → at L.span i ≡ m → at id i < n
-
 -- A cell is later than those that it needs, so the stack's members fall.
 pub record Waiting (m h i : ℕ) (span id stack : List ℕ) : Type 0 where
   pub bottom : at stack 0 ≡ i
@@ -106,9 +100,6 @@ renumbered id x = cond (ltb x 32) x (32 + at id (x - 32))
 -- A cell has a number.
 abbrev pub Renumberable : List ℕ → ℕ → Type 0
 Renumberable id x = 32 ≤ x → (x - 32 < length id) × (at id (x - 32) < 12288)
-
-abbrev pub Copied : List ℕ → List ℕ → ℕ → ℕ → ℕ → List ℕ → List ℕ → Type 0
-Copied operand id lo hi start old operands = Appended (λ j. renumbered id (at operand j)) old operands lo hi start
 
 -- Q is P under the new numbers.
 pub record ProgramRenumbered (n : ℕ) (P : Program) (id code : List ℕ) (Q : Program) : Type 0 where

@@ -2,7 +2,6 @@
 --   depth span x        how many leading bits the operand x depends on: bit x on the first x + 1
 --   Most                the most that a row of operands depends on
 --   OperandsWired       the part of a right program that says where operands are
---   BitsBelow           and that the chosen bits are below k
 --   Spans               no cell depends on more leading bits than its span
 use Rattle.std.specs.Prelude.{cond, List, ℕ, suc, ◌+◌, ◌-◌, ◌<◌, ◌≤◌, ltb, length}
 use Rattle.graph.specs.Columns.{at}
@@ -21,9 +20,6 @@ pub record OperandsWired (cells : ℕ) (first operand : List ℕ) : Type 0 where
   pub rising : (i : ℕ) → i < cells → at first i ≤ at first (suc i)
   pub in_rows : (i : ℕ) → i < cells → at first (suc i) ≤ length operand
   pub earlier : (i j : ℕ) → i < cells → at first i ≤ j → j < at first (suc i) → at operand j < 32 + i
-
-abbrev pub BitsBelow : ℕ → ℕ → List ℕ → List ℕ → Type 0
-BitsBelow cells k first operand = (i j : ℕ) → i < cells → at first i ≤ j → j < at first (suc i) → at operand j < 32 → at operand j < k
 
 -- For the first n cells.
 pub record Spans (k : ℕ) (first operand span : List ℕ) (n : ℕ) : Type 0 where

@@ -16,7 +16,10 @@ room {h = h} {stack = stack} v low s w some =
     numbered_room v.wired.few_cells s (at stack (h - 1)) (omega (arith, top w some)) (w.waits (h - 1) (omega arith))
 
 pub offset_bounds-self-h : goal.offset_bounds-self-h
-offset_bounds-self-h g c = omega (arith, top c.loop-h.invariant.waiting c.loop-h-test.true, c.args.self.now.cells.wired.few_cells)
+offset_bounds-self-h g c = omega (arith, top c.loop-h.invariant.waiting c.loop-h-test.true, c.args.self.now.program.right.few_cells)
+
+pub bounds-self-h : goal.bounds-self-h
+bounds-self-h g c = omega (arith, top c.loop-h.invariant.waiting c.loop-h-test.true, c.args.self.now.numbered.code_rows)
 
 -- There is room on the stack, as what is missing is an earlier cell than its top.
 pub loop-h-preserved-in-Some : goal.loop-h-preserved-in-Some
@@ -25,10 +28,11 @@ loop-h-preserved-in-Some g c =
     let f = c.loop-h.invariant.further in
     let w = c.loop-h.invariant.waiting in
     let m = c.in-Some.ensures in
-    let low : c.args.i < s.cells.count = omega (arith, ap (λ x. x.count) f.cells) in
+    let low : c.args.i < length s.program.kind.now = omega (arith, ap (λ x. length x.kind.now) f.program) in
     let rows : c.loop-h.h < length s.stack = omega (arith, top w c.loop-h-test.true, m.below, s.numbered.code_rows) in
     record {
-      further = record { cells = f.cells; span = f.span; level = f.level; more = f.more; kept = f.kept };
+      further = record { program = f.program; span = f.span; more = f.more; kept = f.kept };
+      level = c.loop-h.invariant.level;
       waiting = waiting_more w c.loop-h-test.true c.in-Some.source rows m.below (m.same_level ∙ w.level (c.loop-h.h - 1) (omega arith)) m.free;
       done = λ z. absurd (let y : ⊥ = omega arith in y);
     }
@@ -36,7 +40,7 @@ loop-h-preserved-in-Some g c =
 pub bounds-self-self : goal.bounds-self-self
 bounds-self-self g c =
     let s = c.loop-h.self in
-    let low : c.args.i < s.cells.count = omega (arith, ap (λ x. x.count) c.loop-h.invariant.further.cells) in
+    let low : c.args.i < length s.program.kind.now = omega (arith, ap (λ x. length x.kind.now) c.loop-h.invariant.further.program) in
     let r = room s.layered low s.numbered c.loop-h.invariant.waiting c.loop-h-test.true in
     omega (arith, s.numbered.code_rows)
 
@@ -45,9 +49,9 @@ invariant_of-self-in-None g c =
     let s = c.loop-h.self in
     let f = c.loop-h.invariant.further in
     let w = c.loop-h.invariant.waiting in
-    let few = s.cells.wired.few_cells in
+    let few = s.program.right.few_cells in
     let t = at s.stack (c.loop-h.h - 1) in
-    let low : t < s.cells.count = omega (arith, top w c.loop-h-test.true, ap (λ x. x.count) f.cells) in
+    let low : t < length s.program.kind.now = omega (arith, top w c.loop-h-test.true, ap (λ x. length x.kind.now) f.program) in
     let own = w.level (c.loop-h.h - 1) (omega arith) in
     record {
       layered = s.layered;
@@ -60,15 +64,15 @@ loop-h-preserved g c =
     let f = c.loop-h.invariant.further in
     let w = c.loop-h.invariant.waiting in
     let t = at s.stack (c.loop-h.h - 1) in
-    let few = s.cells.wired.few_cells in
+    let few = s.program.right.few_cells in
     record {
       further = record {
-        cells = f.cells;
+        program = f.program;
         span = f.span;
-        level = f.level;
         more = omega (arith, f.more);
         kept = λ q h. get_or-set_other s.code s.next q t 0 (λ z. omega (arith, f.more)) ∙ f.kept q h;
       };
+      level = c.loop-h.invariant.level;
       waiting = waiting_less w c.loop-h-test.true s.next;
-      done = λ z. omega (arith, ap (at (set s.id t s.next)) (sym (ap (at s.stack) z ∙ w.bottom)) ∙ get_or-set_same s.id t s.next 0 (omega (arith, top w c.loop-h-test.true, ap (λ x. x.count) f.cells, s.numbered.id_rows)));
+      done = λ z. omega (arith, ap (at (set s.id t s.next)) (sym (ap (at s.stack) z ∙ w.bottom)) ∙ get_or-set_same s.id t s.next 0 (omega (arith, top w c.loop-h-test.true, ap (λ x. length x.kind.now) f.program, s.numbered.id_rows)));
     }

@@ -9,6 +9,7 @@ use Rattle.solve.proofs.numbers.Numbers.number_cell.Given as goal
 abbrev pub invariant-loop-h : goal.invariant-loop-h
 invariant-loop-h g l = record {
   further : Further l.initial.self l.self;
+  level : l.self.level ≡ l.initial.self.level;
   waiting : Waiting l.self.level l.h l.i l.self.span.now l.self.id l.self.stack;
   done : l.h ≡ 0 → at l.self.id l.i < l.self.next;
 }

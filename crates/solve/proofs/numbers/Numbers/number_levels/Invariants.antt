@@ -6,7 +6,7 @@ use Rattle.solve.proofs.numbers.Numbers.number_levels.Given as goal
 
 abbrev pub invariant-loop-m : goal.invariant-loop-m
 invariant-loop-m g l = record {
-  cells : l.self.cells ≡ l.fn.self.cells;
+  program : l.self.program ≡ l.fn.self.program;
   span : l.self.span ≡ l.fn.self.span;
   level : l.self.level ≡ l.m;
   rows : length l.levels ≡ 26;
