@@ -5,7 +5,7 @@ use Prim.Native.Nat.{ℕ, zero, suc, ◌-◌, ◌≤◌, ◌<◌}
 use native.Mathlib.Omega.{arith}
 use native.Mathlib.Numerals.{add-one}
 use native.Mathlib.Decide.{ℕ_discrete}
-use mathlib.Core.Path.{◌≡◌, sym, subst, ap, ◌∙◌}
+use mathlib.Core.Path.{◌≡◌, refl, sym, subst, ap, ◌∙◌}
 use mathlib.Core.Logic.{◌⊎◌, inl, inr}
 use mathlib.Core.Bool.{cond}
 use mathlib.Core.List.{List, [], ◌∷◌, ◌++◌, append-nil, append_assoc}
@@ -17,7 +17,7 @@ use Rattle.std.specs.Prelude.{Option, Some, None}
 use Rattle.graph.specs.Columns.{at}
 use Rattle.graph.specs.inner.Sort.{Ordered}
 use Rattle.graph.specs.inner.Lists.{Filtered}
-use Rattle.graph.proofs.Fills.{filtered_none, filtered_hit, filtered_miss}
+use Rattle.graph.proofs.Picks.{Picked, picks_filtered}
 use Rattle.gates.specs.inner.Gates.{Reckons}
 use Rattle.netlist.specs.declared.Netlist.{Netlist}
 use Rattle.netlist.specs.Theorems.{Fit}
@@ -34,34 +34,15 @@ abbrev pub worked : List ℕ → List ℕ → ℕ → Option ℕ
 worked kind order i = cond (eqb (at kind (at order i)) 0) None (Some (at order i))
 
 module _ (kind order : List ℕ) where
-  abbrev gates : ℕ → List ℕ
-  gates n = picks (worked kind order) n
-
-  -- A list is as well filtered, whatever stands past its items.
-  filtered_before : (n : ℕ) (past : List ℕ) → Filtered (NoInput kind) order n (gates n ++ past) (length (gates n))
-  unfolding picks
-  filtered_before zero past = filtered_none (NoInput kind) order past
-  filtered_before (suc n) past = go (ℕ_discrete (at kind (at order n)) 0) (filtered_before n)
+  tells : (i : ℕ) → Picked (NoInput kind) order (worked kind order) i
+  tells i = go (ℕ_discrete (at kind (at order i)) 0)
     where
-      xs : List ℕ
-      xs = gates n
+      go : Dec (at kind (at order i) ≡ 0) → Picked (NoInput kind) order (worked kind order) i
+      go (yes q) = inr (λ n. n q, rw (eq-eqb (at kind (at order i)) 0 q) refl)
+      go (no q) = inl (q, rw (ne_eqb (at kind (at order i)) 0 q) refl)
 
-      v : ℕ
-      v = at order n
-
-      -- The item is stored behind the others.
-      stored : set (xs ++ 0 ∷ past) (length xs) v ≡ (xs ++ v ∷ []) ++ past
-      stored = set-append_seam xs 0 past v ∙ sym (append_assoc xs (v ∷ []) past)
-
-      go : Dec (at kind (at order n) ≡ 0) → ((past : List ℕ) → Filtered (NoInput kind) order n (xs ++ past) (length xs))
-          → Filtered (NoInput kind) order (suc n) (gates (suc n) ++ past) (length (gates (suc n)))
-      go (yes q) before = rw (eq-eqb (at kind v) 0 q) (rw add-one at (filtered_miss (NoInput kind) order n (xs ++ past) (length xs) (before past) (λ z. z q)))
-      go (no q) before =
-          rw (ne_eqb (at kind v) 0 q, ← stored, length-append xs (v ∷ []))
-          (rw add-one at (filtered_hit (NoInput kind) order n (xs ++ 0 ∷ past) (length xs) (before (0 ∷ past)) q (omega (arith, length-append xs (0 ∷ past)))))
-
-  pub filtered_picks : {n : ℕ} {list : List ℕ} → list ≡ gates n → Filtered (NoInput kind) order n list (length list)
-  filtered_picks {n} e = rw e (subst (λ xs. Filtered (NoInput kind) order n xs (length (gates n))) (append-nil (gates n)) (filtered_before n []))
+  pub filtered_picks : {n : ℕ} {list : List ℕ} → list ≡ picks (worked kind order) n → Filtered (NoInput kind) order n list (length list)
+  filtered_picks e = picks_filtered (NoInput kind) order (worked kind order) tells e
 
 -- ── The plan ────────────────────────────────────────────────────────────────────────────────
 
