@@ -1,6 +1,7 @@
 -- Orders under labels: the one to start from, and how a round keeps it.
 --   held_loop           no loop is empty under the labels
 --   held_ordered        an evaluation order, where the edges that are empty under the labels count as those without a register
+--   cut_order           cut to the netlist's nodes
 --   filtered_past, filtered_push            a filtered list, whatever stands past its items; with the next member put behind them
 --   parts_none, parts_late, parts_rest      none yet; the next is late, or not
 --   order_kept          after a round, the late nodes first and then the others
@@ -9,7 +10,7 @@ use native.Mathlib.Omega.{arith}
 use native.Mathlib.Decide.{dec_lt}
 use mathlib.Core.Path.{◌≡◌, refl, sym, subst, ap, ◌∙◌}
 use mathlib.Core.List.{List, [], ◌∷◌, ◌++◌}
-use lib.ListN.{length, length-set, length-append, get_or-append}
+use lib.ListN.{length, take, length-set, length-append, get_or-append}
 use lib.Seq.{set-append_seam, get_or-append-add}
 use Rattle.std.proofs.lemmas.List.{get_or-take}
 use Rattle.theory.specs.Walk.{Walk, one, more, registers, Loop}
@@ -25,7 +26,7 @@ use Rattle.netlist.specs.Net.{graph_of, regs_of}
 use Rattle.netlist.proofs.Run.{fit_wired}
 use Rattle.lags.specs.inner.Lags.{Sure}
 use Rattle.lags.specs.inner.Rounds.{EmptyUnder, LabelOrder, Held, Lifted, LateBy, OnTime, Parts, Parted}
-use Rattle.lags.proofs.Wires.{ordered_nodes}
+use Rattle.lags.proofs.Wires.{ordered_nodes, cut_at, cut_stands, cut_listed}
 
 -- ── The order to start from ─────────────────────────────────────────────────────────────────
 
@@ -48,6 +49,13 @@ module _ (net : Netlist) (lab held : List ℕ) (q : Held net lab held) where
 
   pub held_ordered : (order : List ℕ) → Ordered net.nodes net.edges net.from net.to held order → LabelOrder net lab order
   held_ordered order o = record { listed = ordered_nodes net held order o; sources_first = λ p e h m t z. o.sources_first p e h m t ((q e m).0 z) }
+
+-- Cut to the netlist's nodes it is one too.
+pub cut_order : {net : Netlist} {lab order : List ℕ} → LabelOrder net lab order → LabelOrder net lab (take net.nodes order)
+cut_order {net} {lab} {order} o = record {
+  listed = cut_listed net order o.listed;
+  sources_first = λ p e h m q z. cut_stands net order p _ (omega arith) (o.sources_first p e h m (q ∙ cut_at net order p h) z);
+}
 
 -- ── Parting ─────────────────────────────────────────────────────────────────────────────────
 

@@ -1,15 +1,15 @@
 -- The climb: what an edge asks for, what a node takes, what a sweep leaves.
 --   floor_pin, floor_gate, floor_low         the mark that a node has by its kind alone
---   asked_kept, asked_raised                 an edge that asks for no more; one that asks for more
+--   asked_higher        what one edge more asks for
 --   climb_askable       a node's edges can be asked
 --   climb_low           what is asked of a node is small
 --   climb_rests         a node that has the mark that it takes
 --   climb_next          what a node takes is below every legal retiming that meets the period, where the marks are
 --   Sweeping            what holds in a sweep before place i of the order
 --   sweep_kept, sweep_moved, sweep_late, sweep_still      a node that has its mark; one that takes another; a pin above its label; after the last node
-use Prim.Native.Nat.{ℕ, suc, ◌+◌, ◌-◌, ◌*◌, min, ◌≤◌, ◌<◌}
+use Prim.Native.Nat.{ℕ, suc, ◌+◌, ◌-◌, ◌*◌, min, max, ◌≤◌, ◌<◌}
 use native.Mathlib.Omega.{arith}
-use native.Mathlib.Decide.{ℕ_discrete, dec_le}
+use native.Mathlib.Decide.{ℕ_discrete, dec_le, dec_lt}
 use mathlib.Core.Path.{◌≡◌, sym, subst, ◌∙◌}
 use mathlib.Core.Bool.{Bool, true, false}
 use mathlib.Core.List.{List}
@@ -49,20 +49,29 @@ floor_low kind = go (dec_le kind 1)
     go (no p) = omega (arith, floor_gate kind (let z : 1 < kind = omega arith in z))
 
 module _ (net : Netlist) (ins mark : List ℕ) (floor k best : ℕ) (a : AskedMark net ins mark floor k best) where
-  pub asked_kept : at mark (at net.from (at ins k)) ≤ best + at net.count (at ins k) * 1048576 → AskedMark net ins mark floor (k + 1) best
+  asked_kept : at mark (at net.from (at ins k)) ≤ best + at net.count (at ins k) * 1048576 → AskedMark net ins mark floor (k + 1) best
   asked_kept q = record {
     least = a.least;
     above = below_more _ _ a.above q;
     cause = ⊎_elim inl (λ c. inr (c.0, omega (arith, c.1), c.2)) a.cause;
   }
 
-  pub asked_raised : best + at net.count (at ins k) * 1048576 < at mark (at net.from (at ins k))
+  asked_raised : best + at net.count (at ins k) * 1048576 < at mark (at net.from (at ins k))
       → AskedMark net ins mark floor (k + 1) (at mark (at net.from (at ins k)) - at net.count (at ins k) * 1048576)
   asked_raised q = record {
     least = omega (arith, a.least);
     above = below_more _ _ (λ j m. omega (arith, a.above j m)) (omega arith);
     cause = inr (k, omega arith, omega arith);
   }
+
+  -- The higher of the two.
+  pub asked_higher : AskedMark net ins mark floor (k + 1) (max best (at mark (at net.from (at ins k)) - at net.count (at ins k) * 1048576))
+  asked_higher = go (dec_lt (best + at net.count (at ins k) * 1048576) (at mark (at net.from (at ins k))))
+    where
+      go : Dec (best + at net.count (at ins k) * 1048576 < at mark (at net.from (at ins k)))
+          → AskedMark net ins mark floor (k + 1) (max best (at mark (at net.from (at ins k)) - at net.count (at ins k) * 1048576))
+      go (yes q) = subst (AskedMark net ins mark floor (k + 1)) (omega arith) (asked_raised q)
+      go (no q) = subst (AskedMark net ins mark floor (k + 1)) (omega arith) (asked_kept (omega arith))
 
 -- ── A climb ─────────────────────────────────────────────────────────────────────────────────
 

@@ -1,16 +1,18 @@
 -- The columns that the climb and the rounds go by, from the sorted edges and the evaluation order.
 --   sorted_wires        the edges sorted by the node that they enter
 --   ordered_nodes       the order has all nodes
+--   cut_at, cut_stands, cut_listed, cut_in, cut_node, cut_all      a list of nodes, cut to as many as the netlist has
 --   entering            the part of the sorted edges that enters a node
 --   reads               what a loop over the edges reads is in its ranges: the rows, the ends, the counts
 use Rattle.std.specs.Prelude.{slice_range}
 use Prim.Native.Nat.{ℕ, ◌+◌, ◌-◌, ◌≤◌, ◌<◌}
 use native.Mathlib.Omega.{arith}
-use mathlib.Core.Path.{◌≡◌, subst, ap, ◌∙◌}
+use mathlib.Core.Path.{◌≡◌, sym, subst, ap, ◌∙◌}
 use mathlib.Core.List.{List}
-use lib.ListN.{length}
+use lib.ListN.{length, take}
+use Rattle.std.proofs.lemmas.List.{get_or-take, length-take}
 use Rattle.graph.specs.Columns.{at}
-use Rattle.graph.specs.inner.Sort.{Sorts, EdgesBy, Ordered}
+use Rattle.graph.specs.inner.Sort.{Stands, Sorts, EdgesBy, Ordered}
 use Rattle.graph.proofs.Parts.{range_at, range_length}
 use Rattle.graph.proofs.ByNode.{sorts_by_node}
 use Rattle.netlist.specs.declared.Netlist.{Netlist}
@@ -27,6 +29,29 @@ sorted_wires net sure room s a b =
 
 pub ordered_nodes : (net : Netlist) (count order : List ℕ) → Ordered net.nodes net.edges net.from net.to count order → NodeList net order
 ordered_nodes net count order o = record { node = o.nodes_only; every = o.every_node }
+
+module _ (net : Netlist) (order : List ℕ) where
+  pub cut_at : (p : ℕ) → p < net.nodes → at (take net.nodes order) p ≡ at order p
+  cut_at p h = get_or-take net.nodes order p 0 h
+
+  pub cut_stands : (m v : ℕ) → m ≤ net.nodes → Stands order m v → Stands (take net.nodes order) m v
+  cut_stands m v h t = record { place = t.place; within = t.within; holds = cut_at t.place (omega (arith, t.within)) ∙ t.holds }
+
+  pub cut_listed : NodeList net order → NodeList net (take net.nodes order)
+  cut_listed o = record {
+    node = λ p h. subst (λ v. v < net.nodes) (sym (cut_at p h)) (o.node p h);
+    every = λ v h. cut_stands net.nodes v (omega arith) (o.every v h);
+  }
+
+  -- What a loop over them looks at is a node; where it ends it has looked at all.
+  pub cut_in : (p : ℕ) → p < length (take net.nodes order) → p < net.nodes
+  cut_in p h = omega (arith, h, length-take net.nodes order)
+
+  pub cut_node : NodeList net order → (p : ℕ) → p < length (take net.nodes order) → at (take net.nodes order) p < net.nodes
+  cut_node o p h = (cut_listed o).node p (cut_in p h)
+
+  pub cut_all : net.nodes ≤ length order → (p : ℕ) → length (take net.nodes order) ≤ p → net.nodes ≤ p
+  cut_all l p h = omega (arith, h, length-take net.nodes order)
 
 module _ {net : Netlist} {g : Ground} (w : Grounded net g) (v : ℕ) (h : v < net.nodes) where
   abbrev lo : ℕ

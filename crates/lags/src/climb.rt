@@ -14,6 +14,7 @@ use netlist::Netlist;
 use rules::is_pin;
 
 // A mark is a label and a time, label · 2^20 + time: the higher label counts first, then the later time. This is one label.
+// Kept: one number and no struct of two: in it `max` is the higher mark, and one subtraction takes labels off and ends at 0 where there are not so many.
 const LABEL: u64 = 1 << 20;
 
 // Label 16,384, which is lag 0.
@@ -39,6 +40,7 @@ pub enum Swept {
 }
 
 // What the climb comes to. Settled: the labels of the least retiming. Unmet: no legal retiming meets the period. Open: the sweeps came to no end.
+// Kept: labels, here and wherever they go, are a whole column with no length beside it: there is no heap, and the netlist says how many nodes it has.
 #[derive(Clone, Copy)]
 pub enum Climbed {
     Settled([u32; NODES]),
@@ -65,10 +67,7 @@ fn asked(net: &Netlist, ins: &[u16], mark: &[u64; NODES], floor: u64) -> u64
         let e = *e as usize;
         let u = net.from[e] as usize;
         let w = u64::from(net.count[e]) * LABEL;
-        let x = mark[u];
-        if best + w < x {
-            best = x - w;
-        }
+        best = best.max(mark[u].saturating_sub(w));
     }
     best
 }
@@ -86,11 +85,11 @@ fn after(asked: u64, delay: u32, period: u32) -> u64
 }
 
 // The labels of the marks.
-fn labels_of(mark: &[u64; NODES], nodes: usize) -> [u32; NODES]
-    requires { (nodes ≤ 512) × ((v : ℕ) → v < nodes → at mark.now v < TOP) }
-    ensures { (v : ℕ) → v < nodes → at result v ≡ label_of (at mark.now v) }
+fn labels_of(marks: &[u64]) -> [u32; NODES]
+    requires { (length marks.now ≤ 512) × ((v : ℕ) → v < length marks.now → at marks.now v < TOP) }
+    ensures { (v : ℕ) → v < length marks.now → at result v ≡ label_of (at marks.now v) }
 {
-    column(nodes, 0, |v| (mark[v] / LABEL) as u32)
+    column(marks.len(), 0, |v| (marks[v] / LABEL) as u32)
 }
 
 impl<'a> Query<'a> {
@@ -103,8 +102,8 @@ impl<'a> Query<'a> {
         let net = self.net;
         let ground = self.ground;
         let mut changed = false;
-        for i in 0..net.nodes as usize {
-            let v = ground.order[i] as usize;
+        for v in &ground.order[..net.nodes as usize] {
+            let v = *v as usize;
             let kind = net.kind[v];
             let best = asked(net, self.entering(v), mark, floor_of(kind));
             let next = after(best, ground.delay[v], self.period);
@@ -135,7 +134,7 @@ impl<'a> Query<'a> {
         let mut mark = [0u64; NODES];
         for _sweep in 0..SWEEPS {
             match self.sweep(&mut mark) {
-                Swept::Still => return Climbed::Settled(labels_of(&mark, nodes)),
+                Swept::Still => return Climbed::Settled(labels_of(&mark[..nodes])),
                 Swept::Moved => {}
                 Swept::Late => return Climbed::Unmet,
                 Swept::High => return Climbed::Open,

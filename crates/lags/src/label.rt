@@ -18,6 +18,7 @@ pub fn up_of(label: u32) -> u32
 }
 
 // The lag of a label.
+// Kept: `as`, since no `From` makes an i32 of a u32; by what is required nothing is lost.
 pub fn lag_of(label: u32) -> i32
     requires { label < 32768 }
     ensures { result ≡ lag_of label }

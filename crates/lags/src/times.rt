@@ -58,8 +58,8 @@ impl<'a> Query<'a> {
         ensures { Arrived self.now.net.now self.now.period lab.now result }
     {
         let mut time = [0u32; NODES];
-        for i in 0..self.net.nodes as usize {
-            let v = order[i] as usize;
+        for v in &order[..self.net.nodes as usize] {
+            let v = *v as usize;
             let best = latest(self.net, self.entering(v), lab, &time, lab[v]);
             time[v] = later(best, self.ground.delay[v], self.period);
         }

@@ -20,9 +20,11 @@ returns c =
     let b = c.entering in
     let sorts = of_wires c.wires.ensures (λ n m from to. Sorts to m n (replicate 1024 0) b.result.list b.result.begin) b.ensures in
     let list_rows : length b.result.list ≡ 1024 = search rules in
+    let order_rows : length c.order_by.result ≡ 512 = search rules in
     let begin_rows : length b.result.begin ≡ 513 = search rules in
     record {
       wires = sorted_wires net c.requires (omega (arith, n.1)) sorts (omega (arith, n.1)) (omega (arith, n.0));
+      order_rows = omega (arith, n.0);
       nodes = ordered_nodes net net.count c.order_by.result c.order_by.ensures;
       delayed = c.working_delays.ensures;
     }

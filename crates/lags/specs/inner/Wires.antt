@@ -5,7 +5,7 @@
 --   Basis               a netlist that reads, what no period plays a part in, and a period
 --   Ready               so for a query
 --   Entering            a list of the edges that enter a node
-use Rattle.std.specs.Prelude.{◌≡◌, List, ℕ, ◌<◌, length}
+use Rattle.std.specs.Prelude.{◌≡◌, List, ℕ, ◌<◌, ◌≤◌, length}
 use Rattle.graph.specs.Columns.{at}
 use Rattle.graph.specs.inner.Sort.{Stands, EdgesBy}
 use Rattle.netlist.specs.declared.Netlist.{Netlist}
@@ -24,6 +24,7 @@ pub record NodeList (net : Netlist) (order : List ℕ) : Type 0 where
 
 pub record Grounded (net : Netlist) (g : Ground) : Type 0 where
   pub wires : EdgesBy net.to net.nodes net.edges g.ins.list g.ins.begin
+  pub order_rows : net.nodes ≤ length g.order
   pub nodes : NodeList net g.order
   pub delayed : Delayed net.delay net.derate net.nodes g.delay
 
