@@ -73,11 +73,10 @@ module _ (order : List ℕ) (nodes : ℕ) (every : (v : ℕ) → v < nodes → S
       go (yes z) = no_spare p (omega arith) (back p e (λ y. let n : p ≡ q = sym y ∙ spare_same p q (at order q) k ∙ z in omega arith))
       go (no z) = no_spare q l (back q refl z)
 
-pub ordered_arranged : (nodes edges : ℕ) (from to count order : List ℕ) → nodes ≤ 512 → nodes ≤ length order → Ordered nodes edges from to count order → Arranged order nodes
-ordered_arranged nodes edges from to count order few rows s = record {
+pub ordered_arranged : (edges : ℕ) (from to count order : List ℕ) → length order ≤ 512 → Ordered (length order) edges from to count order → Arranged order
+ordered_arranged edges from to count order few s = record {
   few = few;
-  rows = rows;
   nodes_only = s.nodes_only;
   every_node = s.every_node;
-  once = λ p q h l. place_once order nodes s.every_node p q h l (s.nodes_only q l);
+  once = λ p q h l. place_once order (length order) s.every_node p q h l (s.nodes_only q l);
 }

@@ -1,15 +1,19 @@
 -- The evaluation order of the moved netlist.
 --   moved_no_loop       the moved netlist has no loop without a register
 --   ordered_counts      an order depends on which counts are 0
-use Prim.Native.Nat.{ℕ, ◌<◌}
+--   ordered_cut         and on its first places, one for each node
+use Prim.Native.Nat.{ℕ, ◌≤◌, ◌<◌}
+use native.Mathlib.Omega.{arith}
 use mathlib.Core.Path.{◌≡◌, ◌∙◌}
 use mathlib.Core.List.{List}
+use lib.ListN.{take}
+use lib.Seq.{get_or-take}
 use Rattle.theory.specs.Walk.{Loop}
 use Rattle.theory.specs.Lag.{new_count}
 use Rattle.theory.proofs.walks.Walks.{loop_shift}
 use Rattle.theory.proofs.labels.Bias.{legal_shifts}
 use Rattle.graph.specs.Columns.{at, column_graph}
-use Rattle.graph.specs.inner.Sort.{Ordered}
+use Rattle.graph.specs.inner.Sort.{Stands, Ordered}
 use Rattle.graph.proofs.Laws.{loop_kinds}
 use Rattle.netlist.specs.declared.Netlist.{Netlist}
 use Rattle.netlist.specs.Net.{graph_of, regs_of}
@@ -34,3 +38,14 @@ ordered_counts nodes edges from to bytes counts order same o = record {
   every_node = o.every_node;
   sources_first = λ p e hp he q z. o.sources_first p e hp he q (same e he ∙ z);
 }
+
+module _ (nodes edges : ℕ) (from to count order : List ℕ) where
+  stands_cut : (p v : ℕ) → p ≤ nodes → Stands order p v → Stands (take nodes order) p v
+  stands_cut p v h s = record { place = s.place; within = s.within; holds = get_or-take nodes order s.place 0 (omega (arith, s.within)) ∙ s.holds }
+
+  pub ordered_cut : Ordered nodes edges from to count order → Ordered nodes edges from to count (take nodes order)
+  ordered_cut o = record {
+    nodes_only = λ p h. rw (get_or-take nodes order p 0 h) (o.nodes_only p h);
+    every_node = λ v h. stands_cut nodes v (omega arith) (o.every_node v h);
+    sources_first = λ p e h l q z. stands_cut p _ (omega arith) (o.sources_first p e h l (q ∙ get_or-take nodes order p 0 h) z);
+  }

@@ -1,7 +1,7 @@
 -- Dues one by one: runs of clocks, and in a run edge by edge.
---   rows_none, rows_more    one run further: how many rows there are
---   dues_none, run_begins, run_ends     a run of clocks begins, and ends
---   few_appended        of one edge no more is put than the run has clocks
+--   rows_more           one run further: how many rows there are
+--   few_pushed          of one edge no more is put than the run has clocks
+--   run_ends            a run of clocks ends
 --   run_room            the room that one more edge takes
 --   dues_more           one edge further
 use Prim.Native.Nat.{ℕ, suc, ◌+◌, ◌*◌, ◌-◌, ◌≤◌, ◌<◌, min}
@@ -10,17 +10,14 @@ use native.Mathlib.Nat.{suc-mul, mul-le-mul_right}
 use native.Mathlib.Numerals.{add-one}
 use native.Mathlib.Decide.{ℕ_discrete, dec_lt}
 use mathlib.Core.Path.{◌≡◌, refl, sym, subst, ap, ap₂, ◌∙◌}
-use mathlib.Core.List.{List}
-use lib.ListN.{length, set}
-use lib.Seq.{get_or-set_same, get_or-set_other}
+use mathlib.Core.List.{List, [], ◌∷◌, ◌++◌}
+use lib.ListN.{length, length-append, get_or-append}
+use lib.Seq.{get_or_at}
 use Rattle.graph.specs.Columns.{at, bit}
 use Rattle.graph.specs.inner.Sort.{Stands}
 use Rattle.netlist.specs.declared.Netlist.{Netlist}
-use Rattle.graph.specs.inner.Lists.{Appended}
-use Rattle.choose.specs.inner.Dues.{cell_at, Carry, due_of, Owed, due_at, DuesTo, FewRows}
-
-pub rows_none : FewRows 0 0
-rows_none = record { at_0 = λ l. omega arith; to_1 = λ l. omega arith; to_3 = λ l. omega arith; to_7 = λ l. omega arith; to_15 = λ l. omega arith; to_24 = omega arith }
+use Rattle.search.specs.inner.Program.{rows_of}
+use Rattle.choose.specs.inner.Dues.{cell_at, Carry, due_of, Owed, due_at, Pushed, DuesTo, FewRows}
 
 pub rows_more : (low high rows edges more : ℕ) → low < 24 → edges ≤ 1024 → high ≡ min (2 * low + 1) 24 → more ≤ rows + edges → FewRows low rows → FewRows high more
 rows_more low high rows edges more h few q up r = record {
@@ -33,54 +30,32 @@ rows_more low high rows edges more h few q up r = record {
 }
 
 -- Of one edge no more is put than the run has clocks.
-pub few_appended : (w l low high n r : ℕ) → low ≤ high → r ≡ n + (min w (w + high - l) - (w + low - l)) → r + low ≤ n + high
-few_appended w l low high n r up q = omega arith
+pub few_pushed : (w l low high n r : ℕ) → low ≤ high → r ≡ n + (min w (w + high - l) - (w + low - l)) → r + low ≤ n + high
+few_pushed w l low high n r up q = omega arith
 
 module _ (net : Netlist) (lag : ℕ → ℕ) (id along : List ℕ) where
-  pub dues_none : (due begin : List ℕ) → at begin 0 ≡ 0 → DuesTo net lag id along 0 0 0 0 due begin (at begin 0)
-  dues_none due begin q = record {
-    none = q;
-    rising = λ e h. absurd (let z : ⊥ = omega arith in z);
-    last = refl;
-    few = omega arith;
-    sound = λ x h. absurd (let z : ⊥ = omega arith in z);
-    complete = λ j s t h l. absurd (let z : ⊥ = omega arith in z);
-  }
-
-  -- A run begins, and ends.
-  module _ (low high rows total : ℕ) (due begin : List ℕ) where
-    pub run_begins : DuesTo net lag id along low low 0 rows due begin total → DuesTo net lag id along low high 0 rows due begin total
-    run_begins d = record {
+  module _ (low high : ℕ) (due begin : List ℕ) where
+    pub run_ends : (n : ℕ) → n ≡ net.edges → net.edges ≤ 1024 → low ≤ high → DuesTo net lag id along low high n due begin → DuesTo net lag id along high high 0 due begin
+    run_ends n all few up d = record {
+      some = d.some;
       none = d.none;
       rising = d.rising;
       last = d.last;
-      few = omega (arith, d.few);
+      few = let z : n * (high - low) ≤ 1024 * (high - low) = mul-le-mul_right (high - low) (omega arith) in omega (arith, d.few);
       sound = d.sound;
-      complete = λ j s t h l k. d.complete j s t h (k (omega arith)) k;
+      complete = λ j s t h l k. d.complete j s t h l (λ x. absurd (let z : ⊥ = omega arith in z));
     }
 
-    pub run_ends : (n : ℕ) → n ≡ net.edges → net.edges ≤ 1024 → low ≤ high → DuesTo net lag id along low high n rows due begin total → DuesTo net lag id along high high 0 rows due begin (at begin rows)
-    run_ends n all few up d =
-        rw d.last (record {
-          none = d.none;
-          rising = d.rising;
-          last = d.last;
-          few = let z : n * (high - low) ≤ 1024 * (high - low) = mul-le-mul_right (high - low) (omega arith) in omega (arith, d.few);
-          sound = d.sound;
-          complete = λ j s t h l k. d.complete j s t h l (λ x. absurd (let z : ⊥ = omega arith in z));
-        })
-
     -- The room that one more edge takes.
-    pub run_room : (n : ℕ) → n < 1024 → low ≤ high → DuesTo net lag id along low high n rows due begin total → total + (high - low) ≤ 1024 * high
+    pub run_room : (n : ℕ) → n < 1024 → low ≤ high → DuesTo net lag id along low high n due begin → length due + (high - low) ≤ 1024 * high
     run_room n h up d =
         let z : suc n * (high - low) ≤ 1024 * (high - low) = mul-le-mul_right (high - low) h in
         omega (arith, suc-mul n (high - low), d.few)
 
   -- The edge of place n, with `w` registers, leaves a node of lag `l`: of its values those from `lo` up to `hi` are to be carried at the clocks of this run.
-  module _ (low high n rows total m v w l lo hi : ℕ) (due due' begin : List ℕ) (d : DuesTo net lag id along low high n rows due begin total) (place : n < net.edges) (edge : at along n < net.edges)
+  module _ (low high n v w l lo hi : ℕ) (due due' begin : List ℕ) (d : DuesTo net lag id along low high n due begin) (place : n < net.edges) (edge : at along n < net.edges)
       (from : at net.from (at along n) ≡ v) (count : at net.count (at along n) ≡ w) (late : lag v ≡ l) (up : low ≤ high) (top : high ≤ 24)
-      (lo-is : lo ≡ w + low - l) (hi-is : hi ≡ min w (w + high - l))
-      (next : m ≡ total + (hi - lo)) (a : Appended (due_at id v l w (at net.start (at along n))) due due' lo hi total) where
+      (lo-is : lo ≡ w + low - l) (hi-is : hi ≡ min w (w + high - l)) (a : Pushed (due_at id v l w (at net.start (at along n))) due due' lo hi) where
     e : ℕ
     e = at along n
 
@@ -97,76 +72,83 @@ module _ (net : Netlist) (lag : ℕ → ℕ) (id along : List ℕ) where
     unfolding e
     due_is s t q = ap₂ (λ u x. cell_at id u x * 2 + bit (at net.start e) s) (sym from) (sym q)
 
-    rise : m + low ≤ total + high
-    rise = few_appended w l low high total m up (next ∙ ap₂ (λ x y. total + (x - y)) hi-is lo-is)
+    rise : length due' + low ≤ length due + high
+    rise = few_pushed w l low high (length due) (length due') up (a.rows ∙ ap₂ (λ x y. length due + (x - y)) hi-is lo-is)
 
-    sound_new : (x : ℕ) → x < m → Dec (x < total) → Owed net lag (cell_at id) (at due' x)
+    sound_new : (x : ℕ) → x < length due' → Dec (x < length due) → Owed net lag (cell_at id) (at due' x)
     unfolding e
     sound_new x h (yes y) = subst (Owed net lag (cell_at id)) (sym (a.kept x y)) (d.sound x y)
     sound_new x h (no y) =
-        let k = x - total in
+        let k = x - length due in
         let s = lo + k in
-        let b : s < hi = omega (arith, next) in
+        let b : s < hi = omega (arith, a.rows) in
         record {
           edge = e;
           old = s;
           clock = s + l - w;
           carry = carry s (omega arith) b;
-          is = ap (at due') (let z : x ≡ total + k = omega arith in z) ∙ a.added k b ∙ due_is s (s + l - w) refl;
+          is = ap (at due') (let z : x ≡ length due + k = omega arith in z) ∙ a.added k b ∙ due_is s (s + l - w) refl;
         }
 
-    kept_due : (x : ℕ) → Stands due total x → Stands due' m x
-    kept_due x o = record { place = o.place; within = omega (arith, o.within, next); holds = a.kept o.place o.within ∙ o.holds }
+    kept_due : (x : ℕ) → Stands due (length due) x → Stands due' (length due') x
+    kept_due x o = record { place = o.place; within = omega (arith, o.within, a.rows); holds = a.kept o.place o.within ∙ o.holds }
 
-    complete_here : (s t : ℕ) → t < high → Dec (t < low) → Carry net lag e s t → Stands due' m (due_of net (cell_at id) e s t)
+    complete_here : (s t : ℕ) → t < high → Dec (t < low) → Carry net lag e s t → Stands due' (length due') (due_of net (cell_at id) e s t)
     unfolding e
     complete_here s t h (yes y) c = kept_due _ (d.complete n s t place h (λ x. y) c)
     complete_here s t h (no y) c =
         let (b, u, q) = clock_is s t (omega arith) h c in
         let k = s - lo in
         let z : lo + k ≡ s = omega arith in
-        record { place = total + k; within = omega (arith, next); holds = a.added k (omega arith) ∙ ap (due_at id v l w (at net.start e)) z ∙ due_is s t q }
+        record { place = length due + k; within = omega (arith, a.rows); holds = a.added k (omega arith) ∙ ap (due_at id v l w (at net.start e)) z ∙ due_is s t q }
 
-    complete_new : (j s t : ℕ) → j < net.edges → t < high → (n + 1 ≤ j → t < low) → Dec (j ≡ n) → Carry net lag (at along j) s t → Stands due' m (due_of net (cell_at id) (at along j) s t)
+    complete_new : (j s t : ℕ) → j < net.edges → t < high → (n + 1 ≤ j → t < low) → Dec (j ≡ n) → Carry net lag (at along j) s t
+        → Stands due' (length due') (due_of net (cell_at id) (at along j) s t)
     unfolding e
     complete_new j s t h u k (yes y) =
-        subst (λ f. Carry net lag f s t → Stands due' m (due_of net (cell_at id) f s t)) (ap (at along) (sym y)) (complete_here s t u (dec_lt t low))
+        subst (λ f. Carry net lag f s t → Stands due' (length due') (due_of net (cell_at id) f s t)) (ap (at along) (sym y)) (complete_here s t u (dec_lt t low))
     complete_new j s t h u k (no y) = λ c. kept_due _ (d.complete j s t h u (λ x. k (omega arith)) c)
 
-    few_new : m ≤ 1024 * low + (n + 1) * (high - low)
+    few_new : length due' ≤ 1024 * low + (n + 1) * (high - low)
     few_new = omega (arith, d.few, rise, suc-mul n (high - low), ap (λ x. x * (high - low)) (add-one n))
 
-    no_row : m ≤ total → DuesTo net lag id along low high (n + 1) rows due' begin total
-    no_row h =
-        let q : m ≡ total = omega (arith, next) in
-        record {
-          none = d.none;
-          rising = d.rising;
-          last = d.last;
-          few = omega (arith, few_new);
-          sound = λ x l. sound_new x (omega arith) (dec_lt x total);
-          complete = λ j s t l u k c. subst (λ y. Stands due' y (due_of net (cell_at id) (at along j) s t)) q (complete_new j s t l u k (ℕ_discrete j n) c);
-        }
-
-    row_more : (begin' : List ℕ) → ((i : ℕ) → i < rows + 1 → at begin' i ≡ at begin i) → at begin' (rows + 1) ≡ m → total < m
-        → DuesTo net lag id along low high (n + 1) (rows + 1) due' begin' m
-    row_more begin' other here more = record {
-      none = other 0 (omega arith) ∙ d.none;
-      rising = λ i h. go i h (ℕ_discrete i rows);
-      last = here;
+    no_row : length due' ≤ length due → DuesTo net lag id along low high (n + 1) due' begin
+    no_row h = record {
+      some = d.some;
+      none = d.none;
+      rising = d.rising;
+      last = omega (arith, d.last, a.rows);
       few = few_new;
-      sound = λ x h. sound_new x h (dec_lt x total);
+      sound = λ x l. sound_new x l (dec_lt x (length due));
+      complete = λ j s t l u k. complete_new j s t l u k (ℕ_discrete j n);
+    }
+
+    row_more : length due < length due' → DuesTo net lag id along low high (n + 1) due' (begin ++ length due' ∷ [])
+    row_more more = record {
+      some = omega (arith, longer);
+      none = get_or-append begin _ 0 0 d.some ∙ d.none;
+      rising = λ i h. go i (omega (arith, longer, d.some)) (ℕ_discrete i (rows_of begin));
+      last = get_or_at begin (length due') [] 0 _ (omega (arith, longer));
+      few = few_new;
+      sound = λ x h. sound_new x h (dec_lt x (length due));
       complete = λ j s t h u k. complete_new j s t h u k (ℕ_discrete j n);
     }
       where
-        go : (i : ℕ) → i < rows + 1 → Dec (i ≡ rows) → (at begin' i < at begin' (suc i)) × (at begin' (suc i) ≤ at begin' i + 24)
+        longer : length (begin ++ length due' ∷ []) ≡ length begin + 1
+        longer = length-append begin (length due' ∷ [])
+
+        go : (i : ℕ) → i < length begin → Dec (i ≡ rows_of begin) → (at (begin ++ length due' ∷ []) i < at (begin ++ length due' ∷ []) (suc i)) × (at (begin ++ length due' ∷ []) (suc i) ≤ at (begin ++ length due' ∷ []) i + 24)
         go i h (yes y) =
-            let p : at begin' i ≡ total = other i h ∙ ap (at begin) y ∙ d.last in
-            let q : at begin' (suc i) ≡ m = ap (at begin') (let z : suc i ≡ rows + 1 = omega arith in z) ∙ here in
+            let p : at (begin ++ length due' ∷ []) i ≡ length due = get_or-append begin _ 0 i h ∙ ap (at begin) y ∙ d.last in
+            let q : at (begin ++ length due' ∷ []) (suc i) ≡ length due' = get_or_at begin (length due') [] 0 (suc i) (omega (arith, d.some)) in
             (omega arith, omega (arith, rise))
-        go i h (no y) = let r = d.rising i (omega arith) in let p = other i h in let q = other (suc i) (omega arith) in (omega (arith, r.0), omega (arith, r.1))
+        go i h (no y) =
+            let r = d.rising i (omega (arith, d.some)) in
+            let p = get_or-append begin (length due' ∷ []) 0 i h in
+            let q = get_or-append begin (length due' ∷ []) 0 (suc i) (omega (arith, d.some)) in
+            (omega (arith, r.0), omega (arith, r.1))
 
     -- Nothing of it is due in this run, and no row begins; or a row does.
-    pub dues_more : (m ≤ total → DuesTo net lag id along low high (n + 1) rows due' begin total)
-        × (total < m → rows + 1 < length begin → DuesTo net lag id along low high (n + 1) (rows + 1) due' (set begin (rows + 1) m) m)
-    dues_more = (no_row, λ more room. row_more _ (λ i h. get_or-set_other begin (rows + 1) i m 0 (let z : ¬ (i ≡ rows + 1) = λ y. omega arith in z)) (get_or-set_same begin (rows + 1) m 0 room) more)
+    pub dues_more : (length due' ≤ length due → DuesTo net lag id along low high (n + 1) due' begin)
+        × (length due < length due' → DuesTo net lag id along low high (n + 1) due' (begin ++ length due' ∷ []))
+    dues_more = (no_row, row_more)

@@ -1,13 +1,16 @@
 // What start values are chosen for.
-use netlist::Netlist;
+ghost use Rattle.choose.specs.inner.Task.{Known};
 
-// A netlist, the labels of its least retiming, the new counts, how many values are chosen before each edge, and on all.
-// Kept: what is known of these, `Choosing`, is a clause and no ghost field: it has walks and places in it, and a ghost field's fact has one proof at most.
+use moves::Move;
+
+// A netlist with the labels of its least retiming, the new counts, how many values are chosen before each edge, and on all; and the largest lag, which
+// is how many clocks have cells.
 #[derive(Clone, Copy)]
 pub struct Task<'a> {
-    pub net: &'a Netlist,
-    pub lab: &'a [u32],
+    pub of: Move<'a>,
     pub counts: &'a [u32],
     pub base: &'a [u32],
     pub k: u32,
+    pub clocks: u32,
+    pub ghost known: { Known of.net.now of.lab.now counts.now base.now k clocks },
 }

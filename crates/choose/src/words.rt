@@ -4,7 +4,7 @@ ghost use Rattle.std.specs.Prelude.{◌≡◌, ◌≤◌, ◌<◌, length};
 ghost use Rattle.theory.specs.Move.{digit};
 ghost use Rattle.choose.specs.inner.Chosen.{run_word, Rises, RunWords};
 
-use graph::EDGES;
+use graph::{EDGES, column};
 use moves::put_bit;
 
 // A choice by its number, of so many bits: the first value is the highest of them.
@@ -36,15 +36,11 @@ impl Choice {
         word
     }
 
-    // The words, by where the values of each edge begin.
-    pub fn words(self, base: &[u32], edges: usize) -> [u32; EDGES]
-        requires { (edges ≤ 1024) × (edges < length base.now) × Rises base.now edges self.bits }
-        ensures { RunWords self.number self.bits base.now edges result }
+    // The words, by where the values of each edge begin and those of the last one end.
+    pub fn words(self, base: &[u32]) -> [u32; EDGES]
+        requires { (0 < length base.now) × (length base.now ≤ 1025) × Rises base.now self.bits }
+        ensures { RunWords self.number self.bits base.now result }
     {
-        let mut words = [0u32; EDGES];
-        for e in 0..edges {
-            words[e] = self.word(base[e], base[e + 1]);
-        }
-        words
+        column(base.len() - 1, 0, |e| self.word(base[e], base[e + 1]))
     }
 }

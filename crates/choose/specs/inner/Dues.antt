@@ -5,12 +5,14 @@
 --   Owed, Dues          the first dues are those of the values that are to be carried: nothing else, and all of them
 --   due_at              the same due, by the numbers that it is made of
 --   Celled              each node has a cell for each clock below its lag
---   DuesTo              runs of clocks: the dues of all clocks below `low`, and of the first n edges of a list those below `high`, in so many rows, none of them empty
+--   Pushed              f of each number from lo up to hi, put at the end of a list
+--   DuesTo              runs of clocks: the dues of all clocks below `low`, and of the first n edges of a list those below `high`, in rows, none of them empty
 --   FewRows             how many rows there are at most when all clocks below `low` are put, in runs that end at 1, 3, 7, 15 and 24
 use Rattle.std.specs.Prelude.{◌≡◌, List, ℕ, suc, ◌+◌, ◌*◌, ◌-◌, ◌<◌, ◌≤◌, length}
 use Rattle.graph.specs.Columns.{at, bit}
 use Rattle.graph.specs.inner.Sort.{Stands}
 use Rattle.netlist.specs.declared.Netlist.{Netlist}
+use Rattle.search.specs.inner.Program.{rows_of, total_of}
 
 abbrev pub cell_at : List ℕ → ℕ → ℕ → ℕ
 cell_at id v t = at id (v * 32 + t)
@@ -44,13 +46,19 @@ pub record Celled (lag : ℕ → ℕ) (nodes cells : ℕ) (id : List ℕ) : Type
   pub low : (v : ℕ) → v < nodes → lag v ≤ 24
   pub inside : (v t : ℕ) → v < nodes → t < lag v → cell_at id v t < cells
 
-pub record DuesTo (net : Netlist) (lag : ℕ → ℕ) (id along : List ℕ) (low high n rows : ℕ) (due begin : List ℕ) (total : ℕ) : Type 0 where
+pub record Pushed (f : ℕ → ℕ) (old new : List ℕ) (lo hi : ℕ) : Type 0 where
+  pub rows : length new ≡ length old + (hi - lo)
+  pub kept : (j : ℕ) → j < length old → at new j ≡ at old j
+  pub added : (k : ℕ) → lo + k < hi → at new (length old + k) ≡ f (lo + k)
+
+pub record DuesTo (net : Netlist) (lag : ℕ → ℕ) (id along : List ℕ) (low high n : ℕ) (due begin : List ℕ) : Type 0 where
+  pub some : 0 < length begin
   pub none : at begin 0 ≡ 0
-  pub rising : (e : ℕ) → e < rows → (at begin e < at begin (suc e)) × (at begin (suc e) ≤ at begin e + 24)
-  pub last : at begin rows ≡ total
-  pub few : total ≤ 1024 * low + n * (high - low)
-  pub sound : (x : ℕ) → x < total → Owed net lag (cell_at id) (at due x)
-  pub complete : (j s t : ℕ) → j < net.edges → t < high → (n ≤ j → t < low) → Carry net lag (at along j) s t → Stands due total (due_of net (cell_at id) (at along j) s t)
+  pub rising : (e : ℕ) → e < rows_of begin → (at begin e < at begin (suc e)) × (at begin (suc e) ≤ at begin e + 24)
+  pub last : total_of begin ≡ length due
+  pub few : length due ≤ 1024 * low + n * (high - low)
+  pub sound : (x : ℕ) → x < length due → Owed net lag (cell_at id) (at due x)
+  pub complete : (j s t : ℕ) → j < net.edges → t < high → (n ≤ j → t < low) → Carry net lag (at along j) s t → Stands due (length due) (due_of net (cell_at id) (at along j) s t)
 
 pub record FewRows (low rows : ℕ) : Type 0 where
   pub at_0 : low < 1 → rows ≤ 0

@@ -1,48 +1,62 @@
 -- `choose::choosing::compile` meets its contract: the cells put together are a right program, and what is due of it is what has to be carried.
-use Rattle.std.proofs.Common.{◌≡◌, ◌≤◌, ◌<◌, ◌/◌, List, ℕ, length, arith, rules, sym, subst}
-use Rattle.graph.specs.Columns.{at}
+use Rattle.std.proofs.Common.{◌≡◌, List, ℕ, length, take, arith, rules, sym}
+use Rattle.std.proofs.lemmas.List.{length-take-le}
 use Rattle.graph.specs.inner.Sort.{Ordered}
 use Rattle.netlist.specs.declared.Netlist.{Netlist}
-use Rattle.moves.specs.inner.Moving.{Choosing}
+use Rattle.moves.specs.inner.Labels.{Labelled}
 use Rattle.moves.proofs.Labels.{low_nodes}
 use Rattle.choose.specs.inner.Numbers.{lag_at, CellsNumbered}
-use Rattle.choose.proofs.Right.{Placed, arranged, okay_all, node_low, wirable, standing}
+use Rattle.choose.specs.inner.Wires.{Placed}
+use Rattle.choose.proofs.Orders.{ordered_cut}
+use Rattle.choose.proofs.Right.{arranged, okay_all, node_low, standing}
 use Rattle.choose.proofs.choosing.compile.Goals as goal
 
-order_rows : {net : Netlist} {lab counts base : List ℕ} {k : ℕ} (order : List ℕ) → Choosing net lab counts base k → length order ≡ 512 → net.nodes ≤ length order
-order_rows order m e = omega (arith, low_nodes _ _ m.moving.labelled)
+-- The nodes of the order, cut out of its column.
+module _ {net : Netlist} {lab : List ℕ} (order : List ℕ) (s : Labelled net lab) (rows : length order ≡ 512) where
+  whole : length (take net.nodes order) ≡ net.nodes
+  whole = length-take-le net.nodes order (omega (arith, low_nodes _ _ s))
 
-placed : {net : Netlist} {lab counts base : List ℕ} {k : ℕ} {order id code : List ℕ} {cells : ℕ} → Choosing net lab counts base k → length order ≡ 512
-    → Ordered net.nodes net.edges net.from net.to counts order → CellsNumbered (lag_at lab) order net.nodes 24 0 cells id code → Placed net lab counts order id code cells
-placed m e o n = record { rows = order_rows _ m e; ordered = o; numbered = n }
+  placed : {counts id code : List ℕ} {clocks : ℕ} → Ordered net.nodes net.edges net.from net.to counts order → CellsNumbered (lag_at lab) (take net.nodes order) clocks 0 id code → Placed net lab counts clocks id code
+  placed o n = record { order = take net.nodes order; whole = whole; ordered = ordered_cut _ _ _ _ _ _ o; numbered = n }
 
-pub number_cells-requires : goal.number_cells-requires
-number_cells-requires c =
-    let (m, l) = c.requires in
-    record { arranged = (arranged m (order_rows _ m (search rules)) c.order_of-order.ensures, m.moving.labelled.rows, l) }
+pub slice_bounds-order-end : goal.slice_bounds-order-end
+slice_bounds-order-end c = let rows : length c.order_of-order.result ≡ 512 = search rules in omega (arith, low_nodes _ _ c.args.task.now.of.labelled)
 
-pub put_kinds-requires-clause-by_index : goal.put_kinds-requires-clause-by_index
-put_kinds-requires-clause-by_index c =
-    let m = c.requires.0 in
-    let p = placed m (search rules) c.order_of-order.ensures c.number_cells.ensures in
-    λ i h. omega (arith, low_nodes _ _ m.moving.labelled, node_low m p i h)
+pub slice_bounds-order-end-2 : goal.slice_bounds-order-end-2
+slice_bounds-order-end-2 c = sym (whole c.order_of-order.result c.args.task.now.of.labelled (search rules))
+
+pub number_cells-requires-clause-arranged : goal.number_cells-requires-clause-arranged
+number_cells-requires-clause-arranged c =
+    let task = c.args.task.now in
+    let w = whole c.order_of-order.result task.of.labelled (search rules) in
+    (arranged task.of.labelled task.known w (ordered_cut _ _ _ _ _ _ c.order_of-order.ensures), w)
+
+pub kinds_of-to-requires-clause-by_index : goal.kinds_of-to-requires-clause-by_index
+kinds_of-to-requires-clause-by_index c =
+    let task = c.args.task.now in
+    let s = task.of.labelled in
+    let p = placed c.order_of-order.result s (search rules) c.order_of-order.ensures c.number_cells.ensures in
+    rw c.as_slice.ensures (λ i h. omega (arith, low_nodes _ _ s, node_low s task.known p i h))
 
 pub wire-requires : goal.wire-requires
-wire-requires c =
-    let m = c.requires.0 in
-    record { wirable = wirable m (placed m (search rules) c.order_of-order.ensures c.number_cells.ensures) }
+wire-requires c = placed c.order_of-order.result c.args.task.now.of.labelled (search rules) c.order_of-order.ensures c.number_cells.ensures
 
-pub dues_of-requires : goal.dues_of-requires
-dues_of-requires c =
-    let m = c.requires.0 in
-    let p = placed m (search rules) c.order_of-order.ensures c.number_cells.ensures in
-    record { labelled = (m.moving.labelled, arranged m p.rows p.ordered, okay_all m p) }
+pub put-requires-clause-nodes : goal.put-requires-clause-nodes
+put-requires-clause-nodes c =
+    let task = c.args.task.now in
+    let w = whole c.order_of-order.result task.of.labelled (search rules) in
+    (w, (arranged task.of.labelled task.known w (ordered_cut _ _ _ _ _ _ c.order_of-order.ensures)).nodes_only)
+
+pub put-requires-clause-celled : goal.put-requires-clause-celled
+put-requires-clause-celled c =
+    let task = c.args.task.now in
+    okay_all task.of.labelled task.known (placed c.order_of-order.result task.of.labelled (search rules) c.order_of-order.ensures c.number_cells.ensures)
 
 pub returns : goal.returns
 returns c =
-    let m = c.requires.0 in
+    let task = c.args.task.now in
     let w = c.wire.ensures.wires in
-    let kinds = subst (λ kind. (i : ℕ) → i < c.number_cells.new.to.cells → at kind i ≡ at c.args.task.now.net.now.kind (at c.number_cells.new.to.code i / 32)) (sym c.wire.ensures.kind) c.put_kinds.ensures in
     let to = c.wire.new.to in
-    standing m (placed m (search rules) c.order_of-order.ensures c.number_cells.ensures) w.entering _ kinds w.operands
-    c.dues_of.ensures.owes c.dues_of.ensures.dues to.kind_rows to.first_rows to.operand_rows
+    let p = placed c.order_of-order.result task.of.labelled (search rules) c.order_of-order.ensures c.number_cells.ensures in
+    let kinds = rw (c.as_slice.ensures, sym c.wire.ensures.kind) at c.kinds_of-to.ensures in
+    rw c.len.ensures (standing task.of.labelled task.known p w.entering w.operands c.put.ensures.owes c.put.ensures.dues to.first_rows to.operand_rows task.of.steppable to.kind to.kind_rows kinds)
