@@ -1,5 +1,5 @@
 // What is searched: a program in columns, what is due of its cells, and what fills the list.
-// Required: `Program`, `Owed` and `Problem` state their facts in their types, so those who make them have to know them.
+// Required: what `Program` and `Problem` state in their types, those who make them have to know.
 ghost use Rattle.std.specs.Prelude.{◌≡◌, suc, ◌<◌, length, take};
 ghost use Rattle.graph.specs.Columns.{at};
 ghost use Rattle.gates.specs.inner.Gates.{part};

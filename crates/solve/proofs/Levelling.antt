@@ -85,7 +85,7 @@ pub ranked : {k m n : ℕ} {L : Layers} {id code levels : List ℕ} → L.cells 
 ranked {k} {m} {n} {L} {id} {code} {levels} few t e s b last = record {
   paired = record {
     id_rows = s.id_rows;
-    code_rows = s.code_rows;
+    code_rows = omega (arith, s.code_rows, all);
     cell = λ q h. s.cell q (omega (arith, all));
     number = λ q h. s.number q (omega (arith, all));
     each = λ i h. let o = s.each i h (λ z. omega (arith, given i h, s.few)) in (omega (arith, o.0, s.few), o.1);

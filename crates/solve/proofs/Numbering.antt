@@ -1,7 +1,7 @@
 -- New numbers, cell by cell.
 --   layered             the spans are levels
 --   numbered_room       while a cell has no number, fewer are given than there are cells
---   numbered_more       one number more: for a cell of level m, after all that it needs
+--   numbered_push       one number more: for a cell of level m, after all that it needs
 --   numbered_all        when every cell has a number, there are as many numbers as cells
 --   numbered_ready      nothing is missing that a cell needs
 use Prim.Native.Nat.{ℕ, zero, suc, ◌+◌, ◌-◌, ◌≤◌, ◌<◌}
@@ -9,9 +9,9 @@ use native.Mathlib.Omega.{arith}
 use native.Mathlib.Decide.{ℕ_discrete, dec_lt}
 use mathlib.Core.Path.{◌≡◌, sym, subst, ap, ◌∙◌}
 use Rattle.std.proofs.Common.{None}
-use mathlib.Core.List.{List}
-use lib.ListN.{length, set, length-set}
-use lib.Seq.{get_or-set_same, get_or-set_other}
+use mathlib.Core.List.{List, [], ◌∷◌, ◌++◌}
+use lib.ListN.{length, set, length-set, length-append, get_or-append}
+use lib.Seq.{get_or_at, get_or-set_same, get_or-set_other}
 use Rattle.theory.proofs.numbers.Pigeon.{no_injection, cons}
 use Rattle.graph.specs.Columns.{at}
 use Rattle.solve.specs.inner.Parts.{OperandsWired, Spans}
@@ -81,34 +81,34 @@ module _ {L : Layers} {m n : ℕ} {id code : List ℕ} (few : L.cells ≤ 12288)
     id_other : (j : ℕ) → ¬ (j ≡ i) → at (set id i n) j ≡ at id j
     id_other j o = get_or-set_other id i j n 0 o
 
-    code_here : at (set code n i) n ≡ i
-    code_here = get_or-set_same code n i 0 (omega (arith, s.code_rows, room))
+    code_here : at (code ++ i ∷ []) n ≡ i
+    code_here = get_or_at code i [] 0 n s.code_rows
 
-    code_other : (q : ℕ) → ¬ (q ≡ n) → at (set code n i) q ≡ at code q
-    code_other q o = get_or-set_other code n q i 0 o
+    code_other : (q : ℕ) → q < n → at (code ++ i ∷ []) q ≡ at code q
+    code_other q l = get_or-append code (i ∷ []) 0 q (omega (arith, s.code_rows))
 
     -- What has a number is not this cell.
     not_this : (j : ℕ) → at id j < n → ¬ (j ≡ i)
     not_this j l e = omega (arith, ap (at id) e, s.few)
 
-    cell_more : (q : ℕ) → Dec (q ≡ n) → q < n + 1 → at (set code n i) q < L.cells
-    cell_more q (yes e) l = omega (arith, ap (at (set code n i)) e ∙ code_here)
-    cell_more q (no e) l = omega (arith, code_other q e, s.cell q (omega arith))
+    cell_more : (q : ℕ) → Dec (q ≡ n) → q < n + 1 → at (code ++ i ∷ []) q < L.cells
+    cell_more q (yes e) l = omega (arith, ap (at (code ++ i ∷ [])) e ∙ code_here)
+    cell_more q (no e) l = omega (arith, code_other q (omega arith), s.cell q (omega arith))
 
-    number_more : (q : ℕ) → Dec (q ≡ n) → q < n + 1 → at (set id i n) (at (set code n i) q) ≡ q
-    number_more q (yes e) l = ap (at (set id i n)) (ap (at (set code n i)) e ∙ code_here) ∙ id_here ∙ sym e
+    number_more : (q : ℕ) → Dec (q ≡ n) → q < n + 1 → at (set id i n) (at (code ++ i ∷ []) q) ≡ q
+    number_more q (yes e) l = ap (at (set id i n)) (ap (at (code ++ i ∷ [])) e ∙ code_here) ∙ id_here ∙ sym e
     number_more q (no e) l =
         let b = s.number q (omega arith) in
-        ap (at (set id i n)) (code_other q e) ∙ id_other (at code q) (not_this (at code q) (omega (arith, b))) ∙ b
+        ap (at (set id i n)) (code_other q (omega arith)) ∙ id_other (at code q) (not_this (at code q) (omega (arith, b))) ∙ b
 
-    each_more : (j : ℕ) → Dec (j ≡ i) → j < L.cells → ¬ (at (set id i n) j ≡ 12288) → (at (set id i n) j < n + 1) × (at (set code n i) (at (set id i n) j) ≡ j)
+    each_more : (j : ℕ) → Dec (j ≡ i) → j < L.cells → ¬ (at (set id i n) j ≡ 12288) → (at (set id i n) j < n + 1) × (at (code ++ i ∷ []) (at (set id i n) j) ≡ j)
     each_more j (yes e) l o =
         let z = ap (at (set id i n)) e ∙ id_here in
-        (omega (arith, z), ap (at (set code n i)) z ∙ code_here ∙ sym e)
+        (omega (arith, z), ap (at (code ++ i ∷ [])) z ∙ code_here ∙ sym e)
     each_more j (no e) l o =
         let z = id_other j e in
         let g = s.each j l (λ y. o (z ∙ y)) in
-        (omega (arith, z, g.0), ap (at (set code n i)) z ∙ code_other (at id j) (λ y. omega (arith, g.0)) ∙ g.1)
+        (omega (arith, z, g.0), ap (at (code ++ i ∷ [])) z ∙ code_other (at id j) g.0 ∙ g.1)
 
     sources_more : (c j : ℕ) → Dec (c ≡ i) → c < L.cells → at (set id i n) c < n + 1 → at L.first c ≤ j → j < at L.first (suc c) → 32 ≤ at L.operand j
         → at (set id i n) (at L.operand j - 32) < at (set id i n) c
@@ -127,15 +127,15 @@ module _ {L : Layers} {m n : ℕ} {id code : List ℕ} (few : L.cells ≤ 12288)
     lower_more c (yes e) l o = omega (arith, ap (at (set id i n)) e ∙ id_here)
     lower_more c (no e) l o = omega (arith, id_other c e, s.lower c l o)
 
-    level_more : (q : ℕ) → Dec (q ≡ n) → q < n + 1 → at L.span (at (set code n i) q) ≤ m
-    level_more q (yes e) l = omega (arith, ap (at L.span) (ap (at (set code n i)) e ∙ code_here))
-    level_more q (no e) l = omega (arith, ap (at L.span) (code_other q e), s.level q (omega arith))
+    level_more : (q : ℕ) → Dec (q ≡ n) → q < n + 1 → at L.span (at (code ++ i ∷ []) q) ≤ m
+    level_more q (yes e) l = omega (arith, ap (at L.span) (ap (at (code ++ i ∷ [])) e ∙ code_here))
+    level_more q (no e) l = omega (arith, ap (at L.span) (code_other q (omega arith)), s.level q (omega arith))
 
-    pub numbered_more : Numbered L m (n + 1) (set id i n) (set code n i)
+    numbered_more : Numbered L m (n + 1) (set id i n) (code ++ i ∷ [])
     numbered_more = record {
       few = omega (arith, room);
       id_rows = omega (arith, length-set id i n, s.id_rows);
-      code_rows = omega (arith, length-set code n i, s.code_rows);
+      code_rows = simp length-append (omega (arith, s.code_rows));
       cell = λ q l. cell_more q (ℕ_discrete q n) l;
       number = λ q l. number_more q (ℕ_discrete q n) l;
       each = λ j l o. each_more j (ℕ_discrete j i) l o;
@@ -143,6 +143,10 @@ module _ {L : Layers} {m n : ℕ} {id code : List ℕ} (few : L.cells ≤ 12288)
       lower = λ c l o. lower_more c (ℕ_discrete c i) l o;
       level = λ q l. level_more q (ℕ_discrete q n) l;
     }
+
+    -- As it is pushed.
+    pub numbered_push : {r : ℕ} {after : List ℕ} → r ≡ n → after ≡ code ++ i ∷ [] → Numbered L m (length after) (set id i r) after
+    numbered_push e w = rw (e, w) (subst (λ k. Numbered L m k (set id i n) (code ++ i ∷ [])) (sym numbered_more.code_rows) numbered_more)
 
   -- Cells of lower levels have their numbers, and of this one none is missing.
   pub numbered_ready : {i : ℕ} → Layered L → i < L.cells → at L.span i ≡ m → Missing L id i None

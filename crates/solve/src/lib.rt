@@ -29,7 +29,7 @@ fn solve_in<const CELLS: usize, const FIRSTS: usize, const OPERANDS: usize, cons
 ) -> Option<u32>
     requires room { (length problem.program.kind.now ≤ CELLS) × (length problem.program.kind.now < FIRSTS)
         × ((i : ℕ) → i < length problem.program.kind.now → at problem.program.first.now (suc i) ≤ OPERANDS) × (total_of problem.owed.begin.now ≤ DUES) }
-    requires few { (CELLS < 65536) × (FIRSTS < 65536) × (OPERANDS < 65536) × (DUES < 65536) }
+    requires few { (CELLS ≤ 12288) × (FIRSTS < 65536) × (OPERANDS < 65536) × (DUES < 65536) }
     ensures { SolvesProblem problem.entry result }
 {
     let program = problem.program;
@@ -38,7 +38,7 @@ fn solve_in<const CELLS: usize, const FIRSTS: usize, const OPERANDS: usize, cons
     let mut numbers: Numbers<'_, '_, CELLS> = Numbers::new(program, &span);
     let levels = numbers.number_levels(dues);
     let mut columns: Columns<CELLS, FIRSTS, OPERANDS> = Columns::new();
-    renumber(program, &numbers.id, &numbers.code, &mut columns);
+    renumber(program, &numbers.id, numbers.code.as_slice(), &mut columns);
     let due: [u16; DUES] = renumbered_dues(dues, &numbers.id);
     let owed = Owed {
         due: &due,

@@ -1,8 +1,9 @@
 // New numbers for the cells: by level, the leading bits that a cell depends on; within a level in the order in which what is due needs them.
 // Private to the crate: `solve` hands on the right program that it asks for.
-ghost use Rattle.std.specs.Prelude.{length};
+ghost use Rattle.std.specs.Prelude.{◌≤◌, length};
 ghost use Rattle.solve.specs.inner.Numbers.{layers_of, Layered, Numbered};
 
+use graph::Items;
 use search::{BITS, LEVELS, Program};
 
 // A cell without a number.
@@ -16,20 +17,19 @@ pub struct Numbers<'a, 'b, const CELLS: usize> {
     // The level of each cell.
     span: &'b [u16],
     level: u16,
-    // How many numbers there are.
-    next: usize,
     // Each cell's number.
     pub id: [u16; CELLS],
-    // Each number's cell.
-    pub code: [u16; CELLS],
+    // Each number's cell: as many as there are numbers.
+    pub code: Items<CELLS>,
     // The cells that wait for their numbers, each needed by the one below it.
     stack: [u16; CELLS],
+    ghost few: { CELLS ≤ 12288 },
     ghost layered: { Layered (layers_of (length program.kind.now) program.first.now program.operand.now span.now) },
-    ghost numbered: { Numbered (layers_of (length program.kind.now) program.first.now program.operand.now span.now) level next id code },
+    ghost numbered: { Numbered (layers_of (length program.kind.now) program.first.now program.operand.now span.now) level (length code) id code },
 }
 
 impl<'a, 'b, const CELLS: usize> Numbers<'a, 'b, CELLS> {
-    ghost use Rattle.std.specs.Prelude.{◌≡◌, ℕ, ◌+◌, ◌/◌, ◌≤◌, ◌<◌, length};
+    ghost use Rattle.std.specs.Prelude.{◌≡◌, [], ℕ, ◌+◌, ◌/◌, ◌≤◌, ◌<◌, length};
     ghost use Rattle.graph.specs.Columns.{at};
     ghost use Rattle.solve.specs.inner.Numbers.{Missing, Ranked};
     ghost use Rattle.solve.specs.inner.Parts.{Spans};
@@ -37,16 +37,15 @@ impl<'a, 'b, const CELLS: usize> Numbers<'a, 'b, CELLS> {
 
     // No number yet.
     pub fn new(program: Program<'a>, span: &'b [u16]) -> Self
-        requires { (length program.kind.now ≤ CELLS) × Layered (layers_of (length program.kind.now) program.first.now program.operand.now span.now) }
-        ensures { (result.program ≡ program.entry) × (result.span ≡ span.entry) × (result.level ≡ 0) × (result.next ≡ 0) }
+        requires { (length program.kind.now ≤ CELLS) × (CELLS ≤ 12288) × Layered (layers_of (length program.kind.now) program.first.now program.operand.now span.now) }
+        ensures { (result.program ≡ program.entry) × (result.span ≡ span.entry) × (result.level ≡ 0) × (result.code ≡ []) }
     {
         Numbers {
             program,
             span,
             level: 0,
-            next: 0,
             id: [NONE; CELLS],
-            code: [0; CELLS],
+            code: Items::new(),
             stack: [0; CELLS],
         }
     }
@@ -72,7 +71,7 @@ impl<'a, 'b, const CELLS: usize> Numbers<'a, 'b, CELLS> {
     fn number_cell(&mut self, i: usize)
         requires { (i < length self.old.program.kind.now) × (at self.old.span.now i ≡ self.old.level) × (at self.old.id i ≡ 12288) }
         ensures further { Further self.old self.new × (self.new.level ≡ self.old.level) }
-        ensures numbered { at self.new.id i < self.new.next }
+        ensures numbered { at self.new.id i < length self.new.code }
     {
         self.stack[0] = i as u16;
         let mut h = 1;
@@ -85,9 +84,8 @@ impl<'a, 'b, const CELLS: usize> Numbers<'a, 'b, CELLS> {
                     h += 1;
                 }
                 None => {
-                    self.id[top] = self.next as u16;
-                    self.code[self.next] = top as u16;
-                    self.next += 1;
+                    self.id[top] = self.code.len() as u16;
+                    self.code.push(top as u16);
                     h -= 1;
                 }
             }
@@ -98,7 +96,7 @@ impl<'a, 'b, const CELLS: usize> Numbers<'a, 'b, CELLS> {
     fn number_if(&mut self, i: usize)
         requires { i < length self.old.program.kind.now }
         ensures further { Further self.old self.new × (self.new.level ≡ self.old.level) }
-        ensures numbered { at self.old.span.now i ≡ self.old.level → at self.new.id i < self.new.next }
+        ensures numbered { at self.old.span.now i ≡ self.old.level → at self.new.id i < length self.new.code }
     {
         if self.span[i] == self.level && self.id[i] == NONE {
             self.number_cell(i);
@@ -110,7 +108,7 @@ impl<'a, 'b, const CELLS: usize> Numbers<'a, 'b, CELLS> {
         requires level { self.old.level ≤ 24 }
         requires due { (x : ℕ) → x < length due.now → at due.now x / 2 < length self.old.program.kind.now }
         ensures further { Further self.old self.new × (self.new.level ≡ self.old.level + 1) }
-        ensures low { (q : ℕ) → q < self.new.next → at self.new.span.now (at self.new.code q) ≤ self.old.level }
+        ensures low { (q : ℕ) → q < length self.new.code → at self.new.span.now (at self.new.code q) ≤ self.old.level }
     {
         for x in due {
             self.number_if((*x / 2) as usize);
@@ -123,7 +121,7 @@ impl<'a, 'b, const CELLS: usize> Numbers<'a, 'b, CELLS> {
 
     // All cells, level by level. Where each level begins.
     pub fn number_levels(&mut self, due: &[u16]) -> [u16; LEVELS]
-        requires none { (self.old.level ≡ 0) × (self.old.next ≡ 0) }
+        requires none { (self.old.level ≡ 0) × (self.old.code ≡ []) }
         requires spans { Spans self.old.program.bits self.old.program.first.now self.old.program.operand.now self.old.span.now (length self.old.program.kind.now) }
         requires due { (x : ℕ) → x < length due.now → at due.now x / 2 < length self.old.program.kind.now }
         ensures { Ranked (length self.old.program.kind.now) self.old.program.bits self.old.program.first.now self.old.program.operand.now self.new.id self.new.code result }
@@ -131,10 +129,10 @@ impl<'a, 'b, const CELLS: usize> Numbers<'a, 'b, CELLS> {
         let mut levels = [0u16; LEVELS];
         let last = self.program.bits as usize + 1;
         for m in 0..last {
-            levels[m] = self.next as u16;
+            levels[m] = self.code.len() as u16;
             self.number_level(due);
         }
-        levels[last] = self.next as u16;
+        levels[last] = self.code.len() as u16;
         levels
     }
 }

@@ -11,7 +11,7 @@ use Rattle.solve.proofs.Renumbering.{redue_cut, refill_cut, renumbered_cut}
 use Rattle.solve.proofs.solve_in.Goals as goal
 
 pub new-numbers-requires : goal.new-numbers-requires
-new-numbers-requires g c = (search rules, (omega (arith, c.requires.room), layered (program_wired c.args.problem.program.right) (omega (arith, c.requires.room)) c.spans-span.ensures))
+new-numbers-requires g c = (search rules, (omega (arith, c.requires.room), omega (arith, c.requires.few), layered (program_wired c.args.problem.program.right) (omega (arith, c.requires.room)) c.spans-span.ensures))
 
 pub renumbered_dues-due-requires : goal.renumbered_dues-due-requires
 renumbered_dues-due-requires g c =
@@ -35,7 +35,7 @@ program-requires g c =
     let p = c.args.problem in
     let numbers = c.number_levels-levels.new.self in
     let ranked = subst (λ x. Ranked (length x.kind.now) x.bits x.first.now x.operand.now numbers.id numbers.code c.number_levels-levels.result) c.new-numbers.ensures.0 c.number_levels-levels.ensures in
-    (search rules, new_program p.program.right ranked c.renumber.ensures (λ i h. omega (arith, c.requires.room.2 i h)) (omega (arith, c.requires.room)) (omega (arith, c.requires.room)))
+    (search rules, new_program p.program.right ranked (rw c.as_slice.ensures at c.renumber.ensures) (λ i h. omega (arith, c.requires.room.2 i h)) (omega (arith, c.requires.room)) (omega (arith, c.requires.room)))
 
 pub invariant_of-anew : goal.invariant_of-anew
 invariant_of-anew g c =
@@ -47,8 +47,8 @@ invariant_of-anew g c =
     let refill = refill_cut numbers.id p.fill.now c.renumbered_fill-fill.result few c.renumbered_fill-fill.ensures in
     let size : length c.program.result.kind.now ≡ length p.program.kind.now = ap (λ x. length x.kind) c.program.ensures.columns ∙ length-take-le (length p.program.kind.now) c.renumber.new.to.kind (omega (arith, c.requires.room)) in
     rw (size, c.program.ensures.bits) (record {
-      owes = new_owes p.program.right ranked c.renumber.ensures (λ i h. omega (arith, c.requires.room.2 i h)) c.renumbered_dues-due.result p.owes redue (omega (arith, c.requires.room));
-      fillable = new_fillable p.program.right ranked c.renumber.ensures (λ i h. omega (arith, c.requires.room.2 i h)) (take (length p.fill.now) c.renumbered_fill-fill.result) p.fillable refill (length-take-le (length p.fill.now) c.renumbered_fill-fill.result few);
+      owes = new_owes p.program.right ranked (rw c.as_slice.ensures at c.renumber.ensures) (λ i h. omega (arith, c.requires.room.2 i h)) c.renumbered_dues-due.result p.owes redue (omega (arith, c.requires.room));
+      fillable = new_fillable p.program.right ranked (rw c.as_slice.ensures at c.renumber.ensures) (λ i h. omega (arith, c.requires.room.2 i h)) (take (length p.fill.now) c.renumbered_fill-fill.result) p.fillable refill (length-take-le (length p.fill.now) c.renumbered_fill-fill.result few);
     })
 
 pub search_lists-requires : goal.search_lists-requires
@@ -56,7 +56,7 @@ search_lists-requires g c =
     let p = c.args.problem in
     let numbers = c.number_levels-levels.new.self in
     let ranked = subst (λ x. Ranked (length x.kind.now) x.bits x.first.now x.operand.now numbers.id numbers.code c.number_levels-levels.result) c.new-numbers.ensures.0 c.number_levels-levels.ensures in
-    let renumbered = subst (ProgramRenumbered (length p.program.kind.now) (columns_of p.program) numbers.id numbers.code) (sym c.program.ensures.columns) (renumbered_cut c.renumber.ensures) in
+    let renumbered = subst (ProgramRenumbered (length p.program.kind.now) (columns_of p.program) numbers.id numbers.code) (sym c.program.ensures.columns) (renumbered_cut (rw c.as_slice.ensures at c.renumber.ensures)) in
     let fits : (i : ℕ) → i < length p.program.kind.now → at p.program.first.now (suc i) ≤ length c.program.result.operand.now =
     λ i h. omega (arith, c.requires.room.2 i h, ap (λ x. length x.operand) c.program.ensures.columns) in
     let size : length c.program.result.kind.now ≡ length p.program.kind.now = ap (λ x. length x.kind) c.program.ensures.columns ∙ length-take-le (length p.program.kind.now) c.renumber.new.to.kind (omega (arith, c.requires.room)) in
@@ -67,7 +67,7 @@ returns g c =
     let p = c.args.problem in
     let numbers = c.number_levels-levels.new.self in
     let ranked = subst (λ x. Ranked (length x.kind.now) x.bits x.first.now x.operand.now numbers.id numbers.code c.number_levels-levels.result) c.new-numbers.ensures.0 c.number_levels-levels.ensures in
-    let renumbered = subst (ProgramRenumbered (length p.program.kind.now) (columns_of p.program) numbers.id numbers.code) (sym c.program.ensures.columns) (renumbered_cut c.renumber.ensures) in
+    let renumbered = subst (ProgramRenumbered (length p.program.kind.now) (columns_of p.program) numbers.id numbers.code) (sym c.program.ensures.columns) (renumbered_cut (rw c.as_slice.ensures at c.renumber.ensures)) in
     let fits : (i : ℕ) → i < length p.program.kind.now → at p.program.first.now (suc i) ≤ length c.program.result.operand.now =
     λ i h. omega (arith, c.requires.room.2 i h, ap (λ x. length x.operand) c.program.ensures.columns) in
     let redue = redue_cut numbers.id p.owed.due.now c.renumbered_dues-due.result (total_of p.owed.begin.now) p.owes.due_rows (subst (λ l. Redue numbers.id (length l) l c.renumbered_dues-due.result) c.dues-dues.ensures c.renumbered_dues-due.ensures) in

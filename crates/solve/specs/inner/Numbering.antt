@@ -12,5 +12,5 @@ layers s = layers_of (length s.program.kind.now) s.program.first.now s.program.o
 pub record Further {N : ℕ} (old new : Numbers N) : Type 0 where
   pub program : new.program ≡ old.program
   pub span : new.span ≡ old.span
-  pub more : old.next ≤ new.next
-  pub kept : (q : ℕ) → q < old.next → at new.code q ≡ at old.code q
+  pub more : length old.code ≤ length new.code
+  pub kept : (q : ℕ) → q < length old.code → at new.code q ≡ at old.code q

@@ -50,7 +50,7 @@ Missing L id i None = (j : ℕ) → at L.first i ≤ j → j < at L.first (suc i
 pub record Numbered (L : Layers) (m n : ℕ) (id code : List ℕ) : Type 0 where
   pub few : n ≤ L.cells
   pub id_rows : L.cells ≤ length id
-  pub code_rows : L.cells ≤ length code
+  pub code_rows : length code ≡ n
   pub cell : (q : ℕ) → q < n → at code q < L.cells
   pub number : (q : ℕ) → q < n → at id (at code q) ≡ q
   pub each : (i : ℕ) → i < L.cells → ¬ (at id i ≡ 12288) → (at id i < n) × (at code (at id i) ≡ i)

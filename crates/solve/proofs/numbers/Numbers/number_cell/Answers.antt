@@ -1,8 +1,9 @@
 -- A push lowers the top of the stack, which is an earlier cell then, and a pop gives a number.
-use Rattle.std.proofs.Common.{ℕ, List, length, ◌+◌, ◌-◌, ◌≤◌, ◌<◌, set, ap, sym, ◌∙◌, arith, get_or-set_same, get_or-set_other}
+use Rattle.std.proofs.Common.{rules, ℕ, List, [], ◌∷◌, length, length-append, ◌+◌, ◌-◌, ◌≤◌, ◌<◌, set, ap, sym, ◌∙◌, arith, get_or-set_same}
+use lib.ListN.{get_or-append}
 use Rattle.graph.specs.Columns.{at}
 use Rattle.solve.specs.inner.Numbers.{Layers, Layered, Numbered, Waiting}
-use Rattle.solve.proofs.Numbering.{numbered_room, numbered_ready, numbered_more}
+use Rattle.solve.proofs.Numbering.{numbered_room, numbered_ready, numbered_push}
 use Rattle.solve.proofs.Levelling.{waiting_more, waiting_less}
 use Rattle.solve.proofs.numbers.Numbers.number_cell.Goals as goal
 
@@ -37,12 +38,11 @@ loop-h-preserved-in-Some g c =
       done = λ z. absurd (let y : ⊥ = omega arith in y);
     }
 
-pub bounds-self-self : goal.bounds-self-self
-bounds-self-self g c =
+pub push-requires : goal.push-requires
+push-requires g c =
     let s = c.loop-h.self in
     let low : c.args.i < length s.program.kind.now = omega (arith, ap (λ x. length x.kind.now) c.loop-h.invariant.further.program) in
-    let r = room s.layered low s.numbered c.loop-h.invariant.waiting c.loop-h-test.true in
-    omega (arith, s.numbered.code_rows)
+    (search rules, omega (arith, room s.layered low s.numbered c.loop-h.invariant.waiting c.loop-h-test.true, s.numbered.id_rows))
 
 pub invariant_of-self-in-None : goal.invariant_of-self-in-None
 invariant_of-self-in-None g c =
@@ -54,8 +54,9 @@ invariant_of-self-in-None g c =
     let low : t < length s.program.kind.now = omega (arith, top w c.loop-h-test.true, ap (λ x. length x.kind.now) f.program) in
     let own = w.level (c.loop-h.h - 1) (omega arith) in
     record {
+      few = s.few;
       layered = s.layered;
-      numbered = numbered_more few s.numbered s.layered.wired low own (w.waits (c.loop-h.h - 1) (omega arith)) (numbered_ready few s.numbered s.layered low own c.in-None.ensures);
+      numbered = numbered_push few s.numbered s.layered.wired low own (w.waits (c.loop-h.h - 1) (omega arith)) (numbered_ready few s.numbered s.layered low own c.in-None.ensures) c.len.ensures c.push.ensures;
     }
 
 pub loop-h-preserved : goal.loop-h-preserved
@@ -64,15 +65,15 @@ loop-h-preserved g c =
     let f = c.loop-h.invariant.further in
     let w = c.loop-h.invariant.waiting in
     let t = at s.stack (c.loop-h.h - 1) in
-    let few = s.program.right.few_cells in
+    let size = simp length-append at (ap length c.push.ensures) in
     record {
       further = record {
         program = f.program;
         span = f.span;
-        more = omega (arith, f.more);
-        kept = λ q h. get_or-set_other s.code s.next q t 0 (λ z. omega (arith, f.more)) ∙ f.kept q h;
+        more = omega (arith, f.more, size);
+        kept = λ q h. ap (λ l. at l q) c.push.ensures ∙ get_or-append s.code (t ∷ []) 0 q (omega (arith, f.more)) ∙ f.kept q h;
       };
       level = c.loop-h.invariant.level;
-      waiting = waiting_less w c.loop-h-test.true s.next;
-      done = λ z. omega (arith, ap (at (set s.id t s.next)) (sym (ap (at s.stack) z ∙ w.bottom)) ∙ get_or-set_same s.id t s.next 0 (omega (arith, top w c.loop-h-test.true, ap (λ x. length x.kind.now) f.program, s.numbered.id_rows)));
+      waiting = waiting_less w c.loop-h-test.true c.len.result;
+      done = λ z. omega (arith, size, c.len.ensures, ap (at (set s.id t c.len.result)) (sym (ap (at s.stack) z ∙ w.bottom)) ∙ get_or-set_same s.id t c.len.result 0 (omega (arith, top w c.loop-h-test.true, ap (λ x. length x.kind.now) f.program, s.numbered.id_rows)));
     }

@@ -16,9 +16,10 @@ returns g c =
     let last : c.loop-m.m ≡ k + 1 = omega arith in
     let spans : Spans k s.program.first.now s.program.operand.now s.span.now (length s.program.kind.now) =
     subst₂ (λ x y. Spans k x.first.now x.operand.now y.now (length x.kind.now)) (sym i.program) (sym i.span) c.requires.spans in
-    let begun : LevelsBegun (k + 1) s.next s.span.now s.code c.loop-m.levels = subst (λ m. LevelsBegun m s.next s.span.now s.code c.loop-m.levels) last i.begun in
-    let numbered : Numbered (layers s) (k + 1) s.next s.id s.code = subst (λ m. Numbered (layers s) m s.next s.id s.code) (i.level ∙ last) s.numbered in
+    let begun : LevelsBegun (k + 1) (length s.code) s.span.now s.code c.loop-m.levels = subst (λ m. LevelsBegun m (length s.code) s.span.now s.code c.loop-m.levels) last i.begun in
+    let numbered : Numbered (layers s) (k + 1) (length s.code) s.id s.code = subst (λ m. Numbered (layers s) m (length s.code) s.id s.code) (i.level ∙ last) s.numbered in
     let rows : k + 1 < length c.loop-m.levels = omega (arith, i.rows, c.requires.none) in
-    let low : (q : ℕ) → q < s.next → at s.span.now (at s.code q) < k + 1 = λ q h. omega (arith, i.low q h) in
-    subst (λ x. Ranked (length x.kind.now) k x.first.now x.operand.now s.id s.code (set c.loop-m.levels (k + 1) s.next)) i.program
-    (ranked s.program.right.few_cells spans refl numbered (begun_more begun rows low) (begun_here begun rows low))
+    let low : (q : ℕ) → q < (length s.code) → at s.span.now (at s.code q) < k + 1 = λ q h. omega (arith, i.low q h) in
+    rw c.len-2.ensures
+    (subst (λ x. Ranked (length x.kind.now) k x.first.now x.operand.now s.id s.code (set c.loop-m.levels (k + 1) (length s.code))) i.program
+    (ranked s.program.right.few_cells spans refl numbered (begun_more begun rows low) (begun_here begun rows low)))

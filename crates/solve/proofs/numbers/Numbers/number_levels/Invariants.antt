@@ -10,6 +10,6 @@ invariant-loop-m g l = record {
   span : l.self.span ≡ l.fn.self.span;
   level : l.self.level ≡ l.m;
   rows : length l.levels ≡ 26;
-  begun : LevelsBegun l.m l.self.next l.self.span.now l.self.code l.levels;
-  low : (q : ℕ) → q < l.self.next → at l.self.span.now (at l.self.code q) < l.m;
+  begun : LevelsBegun l.m (length l.self.code) l.self.span.now l.self.code l.levels;
+  low : (q : ℕ) → q < length l.self.code → at l.self.span.now (at l.self.code q) < l.m;
 }
