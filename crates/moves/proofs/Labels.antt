@@ -1,13 +1,16 @@
 -- Labels and lags; the new counts and the chosen values by labels.
 --   from_node, to_node, to_small, low_edge    an edge's ends are nodes, the label of the one that it enters is small, and so is its number
 --   new_fits, new_is    a new count by the labels of the edge's ends
+--   wide_cut            the lowest count above 32, among the edges of a longer column
 --   wide_edge, wide_none    the lowest count above 32 is retiming's
 --   base_none, chosen_is    running sums
 use Prim.Native.Nat.{ℕ, ◌+◌, ◌≤◌, ◌<◌, min}
 use native.Mathlib.Omega.{arith}
 use mathlib.Core.Path.{◌≡◌, subst, ap₂, ◌∙◌}
 use mathlib.Core.List.{List}
-use Rattle.std.proofs.Common.{None}
+use lib.ListN.{length, take}
+use Rattle.std.proofs.Common.{Option, Some, None, length-take-le}
+use Rattle.std.proofs.lemmas.List.{get_or-take}
 use Rattle.theory.specs.Lag.{up}
 use Rattle.theory.specs.Move.{sum}
 use Rattle.graph.specs.Columns.{at}
@@ -44,6 +47,17 @@ pub low_edges : (net : Netlist) (lab : List ℕ) → Labelled net lab → net.ed
 low_edges net lab s = (fit_rows net s.fit).1
 
 -- ── Counts above 32 ─────────────────────────────────────────────────────────────────────────
+
+-- What is found in the counts of the edges, cut out of a longer column, is found in the column.
+pub wide_cut : (counts : List ℕ) (edges : ℕ) → edges ≤ length counts → (o : Option ℕ) → Wide (take edges counts) (length (take edges counts)) o → Wide counts edges o
+wide_cut counts edges h None w = λ i l. rw (get_or-take edges counts i 0 l) at (w i (rw (length-take-le edges counts h) l))
+wide_cut counts edges h (Some e) w =
+    let inside : e < edges = omega (arith, w.inside, length-take-le edges counts h) in
+    record {
+      inside = inside;
+      low = λ i l. rw (get_or-take edges counts i 0 (omega arith)) at (w.low i l);
+      wide = rw (get_or-take edges counts e 0 inside) at w.wide;
+    }
 
 pub wide_edge : (net : Netlist) (lab counts : List ℕ) (e : ℕ) → Counts net lab counts → WideEdge counts net.edges e → WideAt net (lags_of lab) e
 wide_edge net lab counts e c w = record {
