@@ -1,5 +1,5 @@
 // New numbers for the cells: by level, the leading bits that a cell depends on; within a level in the order in which what is due needs them.
-// Private to the crate: `solve` hands on the right program that it asks for.
+// An operand and a due are numbers, as in the search. Private to the crate: `solve` hands on the right program that it asks for.
 ghost use Rattle.std.specs.Prelude.{◌≤◌, length};
 ghost use Rattle.solve.specs.inner.Numbers.{layers_of, Layered, Numbered};
 
@@ -7,7 +7,7 @@ use graph::Items;
 use search::{BITS, LEVELS, Program};
 
 // A cell without a number.
-// Kept: a number and no Option: in the end every cell has one, and `renumber` reads them as numbers.
+// Kept: a number and no Option: in the end every cell has one, and `renumber` reads the column as numbers; Options would first be copied into a second column.
 const NONE: u16 = 12288;
 
 // The numbers that are given so far: to all cells of levels below `level` and some of this one.

@@ -15,7 +15,7 @@
 --   ProgramRenumbered          the program of the first n cells under the new numbers
 --   Redue               the dues under the new numbers
 --   refilled, Refill    what asks for a filling under the new numbers, and for all of them
-use Rattle.std.specs.Prelude.{Option, Some, None, ◌≡◌, cond, List, ℕ, suc, ◌+◌, ◌-◌, ◌*◌, ◌/◌, ◌%◌, ◌<◌, ◌≤◌, ltb, Option, Some, None, length}
+use Rattle.std.specs.Prelude.{Option, Some, None, ◌≡◌, cond, List, ℕ, suc, ◌+◌, ◌-◌, ◌*◌, ◌/◌, ◌%◌, ◌<◌, ◌≤◌, ltb, length}
 use Rattle.graph.specs.Columns.{at}
 use Rattle.search.specs.inner.Program.{Program, asked}
 use Rattle.solve.specs.inner.Parts.{OperandsWired}
