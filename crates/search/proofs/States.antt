@@ -4,6 +4,7 @@
 --   valued_value        what its gate gives is its value
 --   valued_more         with that the cells are evaluated one further
 --   Searching best c p sig d     the search's state: the lists of the choices below c are tried, the cells below p are evaluated under c, the first d dues agree with c
+--   searching_start     the choice 0, no cell, no due and no list yet
 --   searching_on        more cells are evaluated
 --   searching_turn      one due further, where it agrees
 --   searching_jump      a later choice
@@ -15,7 +16,7 @@
 -- values (`jump_keeps`), and what was due of them agrees still. They and their dues were all looked at before the wrong one, whose level is no lower.
 use Prim.Native.Nat.{ℕ, suc, ◌+◌, ◌-◌, ◌^◌, ◌/◌, ◌%◌, ◌<◌, ◌≤◌}
 use native.Mathlib.Omega.{arith}
-use native.Mathlib.Nat.{div-eq_of_lt-le, div-mul-le_self, mod-eq_of_lt, mod-le}
+use native.Mathlib.Nat.{zero-div, div-eq_of_lt-le, div-mul-le_self, mod-eq_of_lt, mod-le}
 use native.Mathlib.Decide.{ℕ_discrete, dec_lt}
 use native.Mathlib.Numerals.{add-one}
 use mathlib.Core.Path.{◌≡◌, refl, sym, subst, ap, ◌∙◌}
@@ -29,12 +30,12 @@ use Rattle.graph.specs.Columns.{at}
 use Rattle.gates.specs.inner.Gates.{Reckons, InputRows}
 use Rattle.gates.proofs.Words.{part_length}
 use Rattle.gates.proofs.Row.{part_rows}
-use Rattle.std.specs.Prelude.{Option, Some}
+use Rattle.std.specs.Prelude.{Option, Some, None}
 use Rattle.search.specs.declared.choices.Extent.{Extent}
 use Rattle.search.specs.declared.choices.Turn.{Turn}
 use Rattle.search.specs.inner.Program.{Program, look, operands_of, values_to, value_at, RightProgram, GivesDues, Fillable, SolvesLists}
 use Rattle.search.specs.inner.Rows.{Level}
-use Rattle.search.specs.inner.States.{Truthful, Valued, next_after, Jumped, ListOf, Better, Plan}
+use Rattle.search.specs.inner.States.{Truthful, Valued, next_after, Jumped, ListOf, Better, Plan, Fresh}
 use Rattle.search.proofs.Putting.{climb}
 use Rattle.search.proofs.Next.{next_bounds}
 use Rattle.search.proofs.Values.{part_same, look_bit, look_cell, values_at, value_gate, either, operand_bit, agree}
@@ -101,6 +102,20 @@ climbs : {k : ℕ} {e : Extent} {P : Program} {level row left : List ℕ} → Pl
 climbs {k} {e} g = climb e.levels (suc k) (λ n h. g.levelled.climbs n (omega arith))
 
 module _ {k : ℕ} {e : Extent} {P : Program} {level row left : List ℕ} {fill : List (Option ℕ)} (g : Plan k e P level row left) where
+  pub searching_start : (sig : List ℕ) → Fresh (length P.kind) sig → Searching k e P row fill None 0 0 sig 0
+  searching_start sig z = record {
+    limit = omega arith;
+    tried = record { fulfils = λ x e. absurd (cc); kept = λ d h l f. absurd (let y : ⊥ = omega arith in y) };
+    valued = record {
+      size = z.0;
+      few = omega arith;
+      bits = λ x h. z.1 x (omega (arith, g.program.few_bits)) ∙ sym (ap (λ v. v % 2) (zero-div (2 ^ (k - suc x))));
+      values = λ i h. absurd (let y : ⊥ = omega arith in y);
+    };
+    few = omega arith;
+    agreed = λ x h. absurd (let y : ⊥ = omega arith in y);
+  }
+
   module _ {best : Option ℕ} {c p : ℕ} {sig : List ℕ} {d : ℕ} (s : Searching k e P row fill best c p sig d) where
     pub searching_on : {q : ℕ} {after : List ℕ} → Valued (length P.kind) k P c q after → Searching k e P row fill best c q after d
     searching_on v = record { limit = s.limit; tried = s.tried; valued = v; few = s.few; agreed = s.agreed }

@@ -6,7 +6,7 @@ use Rattle.search.specs.declared.choices.Extent.{Extent}
 use Rattle.search.specs.inner.Program.{Program}
 use Rattle.search.specs.inner.States.{EvaluatedTo, Plan}
 use Rattle.search.proofs.Lists.{list_ready}
-use Rattle.search.proofs.States.{Searching, searching_on, searching_turn, searching_drop, searching_next, searching_found, searching_none}
+use Rattle.search.proofs.States.{Searching, searching_start, searching_on, searching_turn, searching_drop, searching_next, searching_found, searching_none}
 use Rattle.search.proofs.choices.best_list.Goals as goal
 
 module _ {k : ℕ} {e : Extent} {P : Program} {level row left : List ℕ} (g : Plan k e P level row left) where
@@ -18,6 +18,9 @@ module _ {k : ℕ} {e : Extent} {P : Program} {level row left : List ℕ} (g : P
   state : {fill : List (Option ℕ)} {best : Option ℕ} {c p d end q : ℕ} {sig after : List ℕ} → Searching k e P row fill best c p sig d
       → EvaluatedTo k P p end sig after q → Searching k e P row fill best c q after d
   state s v = searching_on g s (v.carried _ s.valued)
+
+pub search-init : goal.search-init
+search-init c = searching_start c.requires.planned _ c.requires.fresh
 
 pub jump-turn-requires : goal.jump-turn-requires
 jump-turn-requires c =
