@@ -11,6 +11,7 @@ ghost use Rattle.frame.specs.inner.Decoded.{Digits, byte_of, decoded, framed};
 const LINE_FEED: u8 = b'\n';
 
 // The digits of the values below 16.
+// Kept: a table of our own: the library's `from_digit` gives small letters.
 const DIGITS: [u8; 16] = *b"0123456789ABCDEF";
 
 // What stands for the value of a byte that is no digit: above each digit's.

@@ -1,6 +1,6 @@
 -- Arrival times in one pass along an order under the labels.
 --   product_small       a delay times a derate
---   latest_none, latest_kept, latest_later       of no edge; an edge that is not empty; one that is
+--   latest_kept, latest_later                    an edge that is not empty; one that is
 --   basis_readable      a node's edges can be read
 --   Times               arrival times under the labels: there are some, and only one for each node
 --   Timing              what holds before place i of the order: each node there has its arrival time
@@ -37,9 +37,6 @@ product_small a b h k = mul-le-mul {n₁ = a} {m₁ = b} {n₂ = 255} {m₂ = 25
 -- ── The edges of one node ───────────────────────────────────────────────────────────────────
 
 module _ (net : Netlist) (ins lab time : List ℕ) (here : ℕ) where
-  pub latest_none : LatestTime net ins lab time here 0 0
-  latest_none = record { above = λ k a. absurd (let z : ⊥ = omega arith in z); cause = inl refl }
-
   module _ (k best : ℕ) (t : LatestTime net ins lab time here k best) where
     pub latest_kept : (at lab (at net.from (at ins k)) ≡ at net.count (at ins k) + here → at time (at net.from (at ins k)) ≤ best)
         → LatestTime net ins lab time here (k + 1) best

@@ -1,6 +1,5 @@
 -- Orders under labels: the one to start from, and how a round keeps it.
 --   held_loop           no loop is empty under the labels
---   held_ordered        an evaluation order, where the edges that are empty under the labels count as those without a register
 --   cut_order           cut to the netlist's nodes
 --   filtered_past, filtered_push            a filtered list, whatever stands past its items; with the next member put behind them
 --   parts_none, parts_late, parts_rest      none yet; the next is late, or not
@@ -17,7 +16,7 @@ use Rattle.theory.specs.Walk.{Walk, one, more, registers, Loop}
 use Rattle.theory.specs.inner.Labels.{Chain, Fits}
 use Rattle.theory.proofs.labels.Chains.{chain_sum}
 use Rattle.graph.specs.Columns.{at, column_graph}
-use Rattle.graph.specs.inner.Sort.{Stands, Ordered}
+use Rattle.graph.specs.inner.Sort.{Stands}
 use Rattle.graph.specs.inner.Lists.{Filtered}
 use Rattle.graph.proofs.Laws.{loop_kinds}
 use Rattle.graph.proofs.Fills.{filtered_none, filtered_hit, filtered_miss}
@@ -26,7 +25,7 @@ use Rattle.netlist.specs.Net.{graph_of, regs_of}
 use Rattle.netlist.proofs.Run.{fit_wired}
 use Rattle.lags.specs.inner.Lags.{Sure}
 use Rattle.lags.specs.inner.Rounds.{EmptyUnder, LabelOrder, Held, Lifted, LateBy, OnTime, Parts, Parted}
-use Rattle.lags.proofs.Wires.{ordered_nodes, cut_at, cut_stands, cut_listed}
+use Rattle.lags.proofs.Wires.{cut_at, cut_stands, cut_listed}
 
 -- ── The order to start from ─────────────────────────────────────────────────────────────────
 
@@ -46,9 +45,6 @@ module _ (net : Netlist) (lab held : List ℕ) (q : Held net lab held) where
         moves = o.moves;
         bare = omega (arith, chain_sum (at net.count) (at lab) o.walk (held_chain o.walk o.bare));
       })
-
-  pub held_ordered : (order : List ℕ) → Ordered net.nodes net.edges net.from net.to held order → LabelOrder net lab order
-  held_ordered order o = record { listed = ordered_nodes net held order o; sources_first = λ p e h m t z. o.sources_first p e h m t ((q e m).0 z) }
 
 -- Cut to the netlist's nodes it is one too.
 pub cut_order : {net : Netlist} {lab order : List ℕ} → LabelOrder net lab order → LabelOrder net lab (take net.nodes order)

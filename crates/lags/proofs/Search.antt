@@ -1,6 +1,5 @@
 -- Rounds: what one does to the labels, and the ways in which the search ends.
 --   Lifting             what holds in `raise` before node v
---   lift_late, lift_kept, lift_end      a late node; one that is not late; after the last node
 --   Searching           what holds before each round
 --   search_start        before the first round
 --   search_few          there are 512 nodes at most
@@ -12,11 +11,9 @@
 use Prim.Native.Nat.{ℕ, suc, ◌+◌, ◌≤◌, ◌<◌}
 use native.Mathlib.Omega.{arith}
 use native.Mathlib.Numerals.{add-one}
-use native.Mathlib.Decide.{ℕ_discrete}
-use mathlib.Core.Path.{◌≡◌, sym, subst, ◌∙◌}
+use mathlib.Core.Path.{◌≡◌, sym, subst}
 use mathlib.Core.List.{List}
-use lib.ListN.{length, set, length-set}
-use lib.Seq.{get_or-set_same, get_or-set_other}
+use lib.ListN.{length}
 use Rattle.theory.specs.Graph.{Wired}
 use Rattle.theory.proofs.labels.Start.{Distance, First}
 use Rattle.theory.specs.inner.Labels.{Fits}
@@ -44,48 +41,6 @@ module _ (nodes P : ℕ) (time before : List ℕ) where
     pub up : (k : ℕ) → k < v → P < at time k → at lab k ≡ at before k + 1
     pub stays : (k : ℕ) → k < v → at time k ≤ P → at lab k ≡ at before k
     pub rest : (k : ℕ) → v ≤ k → at lab k ≡ at before k
-
-  module _ (lab : List ℕ) (v : ℕ) (h : v < nodes) (l : Lifting lab v) where
-    pub lift_kept : at time v ≤ P → Lifting lab (v + 1)
-    lift_kept q = record {
-      size = l.size;
-      up = λ k m t. up k m t (ℕ_discrete k v);
-      stays = λ k m t. stays k m t (ℕ_discrete k v);
-      rest = λ k m. l.rest k (omega arith);
-    }
-      where
-        up : (k : ℕ) → k < v + 1 → P < at time k → Dec (k ≡ v) → at lab k ≡ at before k + 1
-        up k m t (yes z) = absurd (let y : at time k ≤ P = subst (λ x. at time x ≤ P) (sym z) q in let x : ⊥ = omega arith in x)
-        up k m t (no z) = l.up k (omega arith) t
-
-        stays : (k : ℕ) → k < v + 1 → at time k ≤ P → Dec (k ≡ v) → at lab k ≡ at before k
-        stays k m t (yes z) = l.rest k (omega arith)
-        stays k m t (no z) = l.stays k (omega arith) t
-
-    pub lift_late : nodes ≤ 512 → P < at time v → Lifting (set lab v (at lab v + 1)) (v + 1)
-    lift_late n q = record {
-      size = length-set lab v (at lab v + 1) ∙ l.size;
-      up = λ k m t. up k m t (ℕ_discrete k v);
-      stays = λ k m t. stays k m t (ℕ_discrete k v);
-      rest = λ k m. other k (omega arith) ∙ l.rest k (omega arith);
-    }
-      where
-        other : (k : ℕ) → ¬ (k ≡ v) → at (set lab v (at lab v + 1)) k ≡ at lab k
-        other k z = get_or-set_other lab v k (at lab v + 1) 0 z
-
-        here : at (set lab v (at lab v + 1)) v ≡ at before v + 1
-        here = let y : v < length lab = omega (arith, l.size) in omega (arith, get_or-set_same lab v (at lab v + 1) 0 y, l.rest v (omega arith))
-
-        up : (k : ℕ) → k < v + 1 → P < at time k → Dec (k ≡ v) → at (set lab v (at lab v + 1)) k ≡ at before k + 1
-        up k m t (yes z) = subst (λ x. at (set lab v (at lab v + 1)) x ≡ at before x + 1) (sym z) here
-        up k m t (no z) = other k z ∙ l.up k (omega arith) t
-
-        stays : (k : ℕ) → k < v + 1 → at time k ≤ P → Dec (k ≡ v) → at (set lab v (at lab v + 1)) k ≡ at before k
-        stays k m t (yes z) = absurd (let y : P < at time k = subst (λ x. P < at time x) (sym z) q in let x : ⊥ = omega arith in x)
-        stays k m t (no z) = other k z ∙ l.stays k (omega arith) t
-
-  pub lift_end : (lab : List ℕ) (v : ℕ) → nodes ≤ v → Lifting lab v → Lifted nodes P time before lab
-  lift_end lab v h l = record { up = λ k m. l.up k (omega arith); stays = λ k m. l.stays k (omega arith) }
 
 -- ── The search ──────────────────────────────────────────────────────────────────────────────
 

@@ -1,12 +1,9 @@
 -- The labels to start from: sweeps over the edges until no edge offers a shorter way from a pin.
 --   State               what holds in a sweep before edge e
---   Edge                what a sweep reads at edge e
 --   near_pin            every gate is within 16,384 registers of a pin
 --   far_start           the distances to start from
---   edge_reads          the edge's numbers are in their ranges
---   state_keep, state_shorten, state_end      an edge that offers nothing; one that offers a shorter way; after the last edge
+--   state_keep, state_shorten                 an edge that offers nothing; one that offers a shorter way
 --   measured_distance, begun_first            the distances and the labels in the theory's words
---   begun_low           the labels are small
 use Prim.Native.Nat.{ℕ, ◌+◌, ◌≤◌, ◌<◌}
 use native.Mathlib.Omega.{arith}
 use native.Mathlib.Decide.{ℕ_discrete, dec_le}
@@ -29,8 +26,7 @@ use Rattle.netlist.proofs.Fits.{clash}
 use Rattle.netlist.proofs.Run.{fit_rows, fit_wired}
 use Rattle.netlist.proofs.Lowest.{count_low}
 use Rattle.lags.specs.inner.Lags.{Sure}
-use Rattle.lags.specs.inner.Rounds.{Low}
-use Rattle.lags.specs.inner.Starts.{start_of, distance_sum, Far, NoShorter, Shortened, Measured, FirstLabels}
+use Rattle.lags.specs.inner.Starts.{start_of, distance_sum, Far, NoShorter, Measured, FirstLabels}
 
 pub record State (net : Netlist) (before far : List ℕ) (changed : Bool) (e : ℕ) : Type 0 where
   pub size : length far ≡ 512
@@ -38,13 +34,6 @@ pub record State (net : Netlist) (before far : List ℕ) (changed : Bool) (e : �
   pub most : distance_sum net far ≤ distance_sum net before
   pub fallen : changed ≡ true → distance_sum net far < distance_sum net before
   pub passed : changed ≡ false → NoShorter net far e
-
-pub record Edge (net : Netlist) (far : List ℕ) (e : ℕ) : Type 0 where
-  pub row : e < 1024
-  pub from_node : at net.from e < 512
-  pub to_node : at net.to e < 512
-  pub few : at net.count e ≤ 32
-  pub low : at far (at net.from e) ≤ 16384
 
 module _ (net : Netlist) (s : Sure net) where
   -- An input reaches v. A walk between the two has fewer edges than there are nodes, 511 at most, and 32 registers on each at most.
@@ -82,17 +71,6 @@ module _ (net : Netlist) (s : Sure net) where
       reached v h (no p) = rw (gate v h p) (near_pin v h p)
 
   -- ── A sweep ─────────────────────────────────────────────────────────────────────────────────
-
-  pub edge_reads : (far : List ℕ) → Far net far → (e : ℕ) → e < net.edges → Edge net far e
-  edge_reads far w e h =
-      let i = fit_wired net s.fit in
-      record {
-        row = omega (arith, (fit_rows net s.fit).1);
-        from_node = omega (arith, i.src_in e h, (fit_rows net s.fit).0);
-        to_node = omega (arith, i.dst_in e h, (fit_rows net s.fit).0);
-        few = count_low net s.fit e h;
-        low = w.low (at net.from e) (i.src_in e h);
-      }
 
   module _ (before far : List ℕ) (changed : Bool) (e : ℕ) (h : e < net.edges) (t : State net before far changed e) where
     pub state_keep : at far (at net.to e) ≤ at far (at net.from e) + at net.count e → State net before far changed (e + 1)
@@ -156,9 +134,6 @@ module _ (net : Netlist) (s : Sure net) where
             (from_edge e (at far (at net.from e)) h (t.ways.reached (at net.from e) ((fit_wired net s.fit).src_in e h))))
         reached x k (no z) = subst (λ n. FromPin (graph_of net) (regs_of net).count x n) (sym (other x z)) (t.ways.reached x k)
 
-  pub state_end : (before far : List ℕ) (changed : Bool) (e : ℕ) → net.edges ≤ e → State net before far changed e → Shortened net before far changed
-  state_end before far changed e h t = record { far = t.ways; fallen = t.fallen; passed = λ z k l. t.passed z k (omega arith) }
-
   -- ── In the theory's words ───────────────────────────────────────────────────────────────────
 
   pub measured_distance : (far : List ℕ) → Measured net far → Distance (graph_of net) (regs_of net).count (at far)
@@ -174,6 +149,3 @@ module _ (net : Netlist) (s : Sure net) where
       go : Dec (PinIn net v) → (PinIn net v × (at lab v ≡ 16384)) ⊎ (¬ PinIn net v × (at lab v + at b.far v ≡ 16384))
       go (yes p) = inl (p, omega (arith, b.labels v h, b.measured.ways.pins v h p))
       go (no p) = inr (p, b.labels v h)
-
-pub begun_low : (net : Netlist) (lab : List ℕ) → FirstLabels net lab → Low net.nodes lab
-begun_low net lab b v h = omega (arith, b.labels v h)
