@@ -9,6 +9,7 @@ mod retiming;
 mod running;
 mod sharing;
 
+use graph::NODES;
 pub use quoting::put_quote;
 pub use refusals::{put_refusal, put_refused};
 pub use rereading::reread;
@@ -16,8 +17,14 @@ pub use retiming::listing;
 pub use running::{put_bits, put_run};
 pub use sharing::put_rails;
 
-// Room for 32,768 bytes and the lines of 512 lags, 11 bytes each.
-pub const ROOM: usize = 32768 + 11 * 512;
+// "a text of up to 32,768 bytes (more decides nothing)".
+pub const LONGEST: usize = 32768;
+
+// A lag's line: five bytes as digits, and the line feed.
+const LAG_LINE: usize = 11;
+
+// Room for such a text and the lines of the lags of 512 nodes.
+pub const ROOM: usize = LONGEST + LAG_LINE * NODES;
 
 // What is printed: the first `len` of these bytes.
 // Kept: no heap, and a buffer that the value owns is an array of fixed size.

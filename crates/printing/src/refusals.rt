@@ -8,25 +8,12 @@ ghost use Rattle.printing.specs.Shown.{refusal_line, line_in};
 use crate::fronts::put_front;
 use netlist::{Place, Refusal};
 
-// "place kind (1: 00 whole, 01 line, 02 node, 03 edge), place (2, 0 for whole)"
-fn place_numbers(place: Place) -> (u8, u16)
-    ensures { (result.0 ≡ kind_of place) × (result.1 ≡ index_of place) }
-{
-    match place {
-        Place::Whole => (0, 0),
-        Place::Line(line) => (1, line),
-        Place::Node(node) => (2, node),
-        Place::Edge(edge) => (3, edge),
-    }
-}
-
 // The bytes of the line of a refusal.
 fn refusal_bytes(number: u8, place: Place) -> [u8; 5]
     ensures { result ≡ 15 ∷ number ∷ kind_of place ∷ bytes_of 2 (index_of place) }
 {
-    let (kind, index) = place_numbers(place);
-    let mut bytes = [15, number, kind, 0, 0];
-    bytes[3..].copy_from_slice(&index.to_be_bytes());
+    let mut bytes = [15, number, place.kind(), 0, 0];
+    bytes[3..].copy_from_slice(&place.index().to_be_bytes());
     bytes
 }
 

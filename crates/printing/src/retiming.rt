@@ -8,7 +8,7 @@ ghost use Rattle.printing.specs.Listed.{twos, lag_line, PrintsWhole};
 ghost use Rattle.printing.specs.inner.Lists.{Lists};
 
 use crate::refusals::put_refusal;
-use crate::{Printed, ROOM};
+use crate::{LAG_LINE, LONGEST, Printed, ROOM};
 use graph::NODES;
 use netlist::written_len;
 
@@ -22,20 +22,19 @@ fn lag_bytes(node: u16, lag: i16) -> [u8; 5]
     bytes
 }
 
-// The lines of the lags, from the cursor `at0`; the cursor past them.
+// The lines of the lags, from the cursor `at`; the cursor past them.
 // Kept: as netlist `put_nodes`: a bound `Fn` that names a const parameter gets no proof.
-fn put_lag_lines(lags: &[i32], out: &mut [u8], at0: usize) -> usize
-    requires nodes_bound { (length lags.now ≤ 512) × (at0 + length (joined (lag_line lags.now) (length lags.now)) ≤ length out.old) }
+fn put_lag_lines(lags: &[i32], out: &mut [u8], at: usize) -> usize
+    requires nodes_bound { (length lags.now ≤ 512) × (at + length (joined (lag_line lags.now) (length lags.now)) ≤ length out.old) }
     requires by_index { (v : ℕ) → v < length lags.now → (up (get_or lags.now v (pos 0)) < 32768) × (down (get_or lags.now v (pos 0)) ≤ 32768) }
-    ensures out_after { out.new ≡ sets out.old at0 (joined (lag_line lags.now) (length lags.now)) }
-    ensures value { result ≡ at0 + length (joined (lag_line lags.now) (length lags.now)) }
+    ensures out_after { out.new ≡ sets out.old at (joined (lag_line lags.now) (length lags.now)) }
+    ensures value { result ≡ at + length (joined (lag_line lags.now) (length lags.now)) }
 {
-    let mut at = at0;
     for (v, lag) in lags.iter().enumerate() {
-        frame::put_line(out, at, &lag_bytes(v as u16, *lag as i16));
-        at += 11;
+        let line = lag_bytes(v as u16, *lag as i16);
+        frame::put_line(out, at + LAG_LINE * v, &line);
     }
-    at
+    at + LAG_LINE * lags.len()
 }
 
 // A text retimed and listed at the front of `out`, which has room for the text and the lags of 512 nodes; how many bytes that took.
@@ -54,9 +53,6 @@ fn list(text: &[u8], out: &mut [u8]) -> usize
         Err(reason) => put_refusal(reason, out),
     }
 }
-
-// "up to 32,768 bytes (more decides nothing)".
-const LONGEST: usize = 32768;
 
 // What the program `listing` prints of a text, of any length.
 pub fn listing(text: &[u8]) -> Printed

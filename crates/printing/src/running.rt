@@ -9,6 +9,7 @@ ghost use Rattle.printing.specs.Printed.{bit_digit, digit_line, PrintsRun};
 use crate::refusals::put_refusal;
 
 // The digit of a bit.
+// Kept: by hand: the library's formatting writes to a writer, and this is one byte.
 fn digit(bit: u8) -> u8
     ensures { result ≡ bit_digit bit }
 {

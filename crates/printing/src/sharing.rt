@@ -9,6 +9,12 @@ ghost use Rattle.printing.specs.Shared.{rail_line, rail_lines, PrintsRails};
 
 use crate::refusals::put_refusal;
 
+// The line of the total: five bytes as digits, and the line feed.
+const TOTAL_LINE: usize = 11;
+
+// The line of a node's rails: seven bytes.
+const RAIL_LINE: usize = 15;
+
 // The bytes of the line of the total.
 fn total_bytes(total: usize) -> [u8; 5]
     ensures { result ≡ (10 ∷ []) ++ bytes_of 4 total }
@@ -35,7 +41,8 @@ fn put_nodes(table: &[u32], out: &mut [u8])
     ensures { out.new ≡ sets out.old 11 (joined (rail_line table.now) (length table.now)) }
 {
     for (v, rails) in table.iter().enumerate() {
-        frame::put_line(out, 11 + 15 * v, &rail_bytes(v as u16, *rails));
+        let line = rail_bytes(v as u16, *rails);
+        frame::put_line(out, TOTAL_LINE + RAIL_LINE * v, &line);
     }
 }
 
@@ -45,7 +52,7 @@ fn put_counted(total: usize, table: &[u32], out: &mut [u8]) -> usize
     ensures out_after { out.new ≡ placed out.old 0 (rail_lines total table.now (length table.now)) }
     ensures value { result ≡ line_in (rail_lines total table.now (length table.now)) out.old }
 {
-    let len = 11 + 15 * table.len();
+    let len = TOTAL_LINE + RAIL_LINE * table.len();
     if out.len() < len {
         return 0;
     }

@@ -12,6 +12,7 @@ use netlist::Netlist;
 const LONGEST_PERIOD: u32 = 65535;
 
 // A period that is met while no smaller one is, and the labels of the least retiming there.
+// Kept: the labels are a whole column with no length beside it, as lags gives them: there is no heap, and the netlist says how many nodes it has.
 #[derive(Clone, Copy)]
 pub struct Tight {
     pub period: u32,

@@ -2,11 +2,9 @@
 // `0F`, number (1), place kind (1: 00 whole, 01 line, 02 node, 03 edge), place (2, 0 for whole).
 #![tactic(auto)]
 
+use printing::LONGEST;
 use std::io;
 use std::io::{Read, Write};
-
-// "a text of up to 32,768 bytes (more decides nothing)".
-const LONGEST: usize = 32768;
 
 fn main(rt: HostRuntime) -> io::Result<()> {
     let mut text = Vec::new(rt.alloc());

@@ -6,6 +6,7 @@
 --   RunCall t vectors out r out'           a text run
 --   RetimeCall t out lags r out' lags'     a text retimed
 --   RereadCall t out r out'                a text read and written again
+--   figures_of q                           the figures of a quote
 --   QuoteCall t f r f'                     a text quoted into the lent figures
 --   RailsCall t table r table'             a text's rails counted into the lent table
 -- Each fixes r and all that is left: specs/Theorems.
@@ -19,6 +20,7 @@ use Rattle.simulate.specs.Step.{Steps}
 use Rattle.simulate.specs.Run.{Runs}
 use Rattle.retime.specs.Retime.{Retimes}
 use Rattle.retime.specs.Demand.{Demand3}
+use Rattle.quote.specs.declared.Quoted.{Quoted}
 use Rattle.quote.specs.Quote.{Quotes}
 use Rattle.rails.specs.Rails.{Rails}
 use Rattle.retimer.specs.declared.Figures.{Figures}
@@ -51,6 +53,9 @@ RetimeCall t out lags r out' lags' = Coded (λ s. Retimes t out lags s out' lags
 
 abbrev pub RereadCall : (t out : List ℕ) → ℕ → List ℕ → Type 0
 RereadCall t out r out' = Coded (λ s. Rewrites t out s out') r
+
+abbrev pub figures_of : Quoted → Figures
+figures_of q = record { registers = q.registers; largest = q.largest; number = q.number }
 
 abbrev pub QuoteCall : List ℕ → Figures → ℕ → Figures → Type 0
 QuoteCall t f r f' = Coded (λ s. (found : Figures) × Quotes t s found.registers found.largest found.number × (f' ≡ put_back s found f)) r

@@ -10,12 +10,7 @@ fn place_code(p: Place) -> u64
     ensures value { result ≡ place p }
     ensures upper_bound { result < 262144 }
 {
-    match p {
-        Place::Whole => 0,
-        Place::Line(n) => 65536 + u64::from(n),
-        Place::Node(v) => 131072 + u64::from(v),
-        Place::Edge(e) => 196608 + u64::from(e),
-    }
+    u64::from(p.kind()) * 65536 + u64::from(p.index())
 }
 
 // A refusal's number.

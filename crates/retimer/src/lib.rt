@@ -4,12 +4,14 @@
 // it decides nothing itself.
 #![tactic(auto)]
 
-ghost use Rattle.retimer.specs.Calls.{ReadCall, CheckCall, WriteCall, StepCall, RunCall, RetimeCall, RereadCall, QuoteCall, RailsCall};
+ghost use Rattle.std.specs.Prelude.{◌≡◌};
+ghost use Rattle.retimer.specs.Calls.{figures_of, ReadCall, CheckCall, WriteCall, StepCall, RunCall, RetimeCall, RereadCall, QuoteCall, RailsCall};
 
 mod coded;
 
 use coded::{answer_code, refusal_code};
 use netlist::Netlist;
+use quote::Quoted;
 use simulate::Machine;
 
 // A quote's figures: the register total, the largest count on an edge, the number of values to choose.
@@ -20,6 +22,18 @@ pub struct Figures {
     pub registers: u32,
     pub largest: u32,
     pub number: u32,
+}
+
+impl From<Quoted> for Figures {
+    ghost from_gives = { λ quote figures. figures ≡ figures_of quote };
+
+    fn from(quote: Quoted) -> Figures {
+        Figures {
+            registers: quote.registers,
+            largest: quote.largest,
+            number: quote.number,
+        }
+    }
 }
 
 // A text read into the record; a refusal leaves the record as it was.
@@ -99,12 +113,8 @@ pub extern "C" fn retimer_quote(text: &[u8], figures: &mut Figures) -> u64
 {
     match quote::quote(text) {
         Ok(quote) => {
-            *figures = Figures {
-                registers: quote.registers,
-                largest: quote.largest,
-                number: quote.number,
-            };
-            quote.period as u64
+            *figures = Figures::from(quote);
+            u64::from(quote.period)
         }
         Err(reason) => refusal_code(reason),
     }

@@ -6,7 +6,7 @@ use Rattle.retimer.proofs.retimer_quote.Goals as goal
 pub returns-in-Ok : goal.returns-in-Ok
 returns-in-Ok c =
     let q = c.in-Ok.quote in
-    (value q.period, (record { registers = q.registers; largest = q.largest; number = q.number }, c.in-Ok.ensures, refl), refl)
+    (value q.period, (figures_of q, c.in-Ok.ensures, c.from.ensures), ?)
 
 -- A quote that is refused has no figures, so 0 stands for them, and those that were lent stay.
 pub returns-in-Err : goal.returns-in-Err

@@ -6,6 +6,4 @@ use Rattle.printing.proofs.refusals.refusal_bytes.Goals as goal
 
 pub returns : goal.returns
 unfolding bytes_of
-returns c =
-    let numbers = c.place_numbers-kind.ensures in
-    rw (numbers.0, c.copy_from_slice.ensures.after ∙ c.to_be_bytes.ensures ∙ code_two _, numbers.1)
+returns c = rw (c.kind.ensures, c.copy_from_slice.ensures.after ∙ c.to_be_bytes.ensures ∙ code_two _, c.index.ensures)
