@@ -3,13 +3,11 @@
 use Prim.Native.Nat.{ℕ}
 use mathlib.Core.Path.{◌≡◌}
 use mathlib.Core.List.{List}
-use lib.ListN.{length}
-use Rattle.frame.specs.Frame.{bytes_of, placed}
-use Rattle.frame.proofs.Laws.{length_line}
+use Rattle.frame.specs.Frame.{placed}
 use Rattle.netlist.specs.Answer.{Said}
 use Rattle.quote.specs.Quote.{Quotes}
 use Rattle.printing.specs.Shown.{line_in}
-use Rattle.printing.specs.Quoted.{quote_line, shown_quote, PrintsQuote}
+use Rattle.printing.specs.Quoted.{shown_quote, PrintsQuote}
 
 pub prints_quote : (t old new : List ℕ) (r : ℕ) (said : Said) {a b c : ℕ} → Quotes t said a b c → new ≡ placed old 0 (shown_quote said a b c)
     → r ≡ line_in (shown_quote said a b c) old → PrintsQuote t old r new

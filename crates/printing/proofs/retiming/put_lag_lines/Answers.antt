@@ -21,7 +21,7 @@ loop-v-preserved c =
     let long = length_joined f 11 (lag_length a.lags.now) in
     let same = handed (get_or a.lags.now here.v (pos 0)) (c.requires.by_index here.v (omega arith)) in
     c.put_line.ensures
-    ∙ ap₂ (λ l bytes. placed l (a.at + 11 * here.v) (line_of bytes)) here.invariant (c.lag_bytes.ensures ∙ ap (λ z. (4 ∷ []) ++ bytes_of 2 here.v ++ bytes_of 2 (twos z)) same)
+    ∙ ap₂ (λ l bytes. placed l (a.at + 11 * here.v) (line_of bytes)) here.invariant (c.lag_bytes-line.ensures ∙ ap (λ z. (4 ∷ []) ++ bytes_of 2 here.v ++ bytes_of 2 (twos z)) same)
     ∙ ap (λ k. placed (sets a.out.now a.at (joined f here.v)) (a.at + k) (f here.v)) (sym (long here.v))
     ∙ put_more f a.out.now a.at here.v (omega (arith, c.requires.nodes_bound, long (here.v + 1), long (length a.lags.now)))
 

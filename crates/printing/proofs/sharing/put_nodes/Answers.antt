@@ -19,7 +19,7 @@ loop-v-preserved c =
     let f = rail_line a.table.now in
     let long = length_joined f 15 (rail_length a.table.now) in
     c.put_line.ensures
-    ∙ ap₂ (λ l bytes. placed l (11 + 15 * here.v) (line_of bytes)) here.invariant c.rail_bytes.ensures
+    ∙ ap₂ (λ l bytes. placed l (11 + 15 * here.v) (line_of bytes)) here.invariant c.rail_bytes-line.ensures
     ∙ ap (λ k. placed (sets a.out.now 11 (joined f here.v)) (11 + k) (f here.v)) (sym (long here.v))
     ∙ put_more f a.out.now 11 here.v (omega (arith, long (here.v + 1)))
 
