@@ -33,9 +33,9 @@ use Rattle.starts.proofs.Held.{asked_source, shows, Held, held_put, held_on, nod
 use Rattle.starts.proofs.Turned.{turned_edge, row_ahead}
 
 module _ (net : Netlist) (lab : List ℕ) (ok : Steppable net) (m : Labelled net lab) (ins first : List ℕ) (en : Entering net ins first) (s : ℕ) (late : 32 ≤ s) (even : s % 32 ≡ 0)
-    (list : List ℕ) (w : Listed net lab s list) (near : (i : ℕ) → i < length list → s + at lab (at list i) < 16384) (p : Leading net.from net.to net.count net.edges list)
-    (slots : List ℕ) (rows : net.edges ≤ length ins) (size : net.edges ≤ length slots) (right : SlotsOf list (length list) first ins net.from net.count net.start s slots)
-    (edge_rows : (e : ℕ) → e < net.edges → EdgeRows net.from net.count e) where
+    (list : List ℕ) (w : Listed net lab s list) (near : (i : ℕ) → i < length list → s + at lab (at list i) < 16384) (p : Leading net list)
+    (slots : List ℕ) (rows : net.edges ≤ length ins) (size : net.edges ≤ length slots) (right : SlotsOf list (length list) first ins net s slots)
+    (edge_rows : (e : ℕ) → e < net.edges → EdgeRows net e) where
   -- The last place of a node in the list.
   abbrev last : ℕ → Option ℕ
   last v = place_in p.place v
@@ -52,7 +52,7 @@ module _ (net : Netlist) (lab : List ℕ) (ok : Steppable net) (m : Labelled net
   Passed i ring = (v q j : ℕ) → v < net.nodes → last v ≡ Some q → q < i → j < 32 → AskedAt lab (s + j) v → at ring (row (s + j) + v) ≡ quietly net v (s + j)
 
   edge_right : (ring : List ℕ) (i e j : ℕ) → Held net lab s ring → Passed i ring → e < net.edges → last (at net.to e) ≡ Some i → j < 32 → AskedAt lab (s + j) (at net.to e)
-      → at ring (edge_slot net.from net.count net.start (s + j) e) ≡ seen (graph_of net) (regs_of net) (quietly net) e (s + j)
+      → at ring (edge_slot net (s + j) e) ≡ seen (graph_of net) (regs_of net) (quietly net) e (s + j)
   edge_right ring i e j held passed l q h a =
       shows net ring held.zeroth held.one (s + j) e (λ t r. go t r (asked_source net lab m e (s + j) t l a r) (dec_lt t s))
     where
@@ -76,11 +76,11 @@ module _ (net : Netlist) (lab : List ℕ) (ok : Steppable net) (m : Labelled net
     low = omega (arith, w.nodes_only i h, low_nodes net lab m)
 
     -- The slots of clock s + j.
-    later : (j : ℕ) → Slots ins net.from net.count net.start (s + j) (at first v) (at first (suc v)) (map (turned j) slots)
+    later : (j : ℕ) → Slots ins net (s + j) (at first v) (at first (suc v)) (map (turned j) slots)
     later j k a b =
         let l = en.within v (w.nodes_only i h) in
         map_at (turned j) slots k (omega arith) ∙ ap (turned j) (right i h k a b)
-        ∙ turned_edge net.from net.count net.start (at ins k) s (edge_rows (at ins k) (en.edge k (omega arith))) late j
+        ∙ turned_edge net (at ins k) s (edge_rows (at ins k) (en.edge k (omega arith))) late j
 
     -- What it sees then.
     abbrev sees : List ℕ

@@ -27,14 +27,14 @@ use Rattle.starts.proofs.Held.{asked_source, shows, Held, held_put, held_on, nod
 
 module _ (net : Netlist) (lab : List ℕ) (ok : Steppable net) (m : Labelled net lab) (ins first : List ℕ) (en : Entering net ins first) (s : ℕ) (list : List ℕ) (w : Listed net lab s list)
     (near : (i : ℕ) → i < length list → s / 32 * 32 + at lab (at list i) < 16384)
-    (slots : List ℕ) (rows : net.edges ≤ length ins) (size : net.edges ≤ length slots) (right : SlotsOf list (length list) first ins net.from net.count net.start s slots) where
+    (slots : List ℕ) (rows : net.edges ≤ length ins) (size : net.edges ≤ length slots) (right : SlotsOf list (length list) first ins net s slots) where
   -- The first i nodes of the list have their values of clock s.
   abbrev Done : ℕ → List ℕ → Type 0
   Done i ring = (j : ℕ) → j < i → AskedAt lab s (at list j) → at ring (row s + at list j) ≡ quietly net (at list j) s
 
   -- The source of an edge without a register is an earlier node of the list; another edge shows one of the last 32 values, or a start value.
   edge_right : (ring : List ℕ) (i e : ℕ) → Held net lab s ring → Done i ring → i < length list → e < net.edges → at net.to e ≡ at list i → AskedAt lab s (at list i)
-      → at ring (edge_slot net.from net.count net.start s e) ≡ seen (graph_of net) (regs_of net) (quietly net) e s
+      → at ring (edge_slot net s e) ≡ seen (graph_of net) (regs_of net) (quietly net) e s
   edge_right ring i e held done h l q a =
       shows net ring held.zeroth held.one s e
       (λ t r. go t r (asked_source net lab m e s t l (subst (AskedAt lab s) (sym q) a) r) (ℕ_discrete (at net.count e) 0))

@@ -93,7 +93,7 @@ module _ (w : Wiring) (lab truth : List ℕ) where
         bits = f.held.bits;
       }
 
-      module _ (many : ℕ) (strides : (let net = w.net.now in Strides net.from net.to net.count net.edges list s many)) where
+      module _ (many : ℕ) (strides : Strides w.net.now list s many) where
         pub following_takes : Evaluable list truth w.ins.begin slots' (length list) (row s) ring × (1 < many → Evaluable list truth w.ins.begin slots' (length list) (row s + 15872) ring)
         following_takes = (
           evaluable (row s) (omega arith),
@@ -101,7 +101,7 @@ module _ (w : Wiring) (lab truth : List ℕ) where
         )
 
         module _ (ring' : List ℕ) (taken : Taken w.net.now.kind list w.ins.begin slots' (row s) many ring ring') where
-          held_later : (let net = w.net.now in Strides net.from net.to net.count net.edges list s many) → Taken w.net.now.kind list w.ins.begin slots' (row s) many ring ring' → Held w.net.now lab (s + many) ring'
+          held_later : Strides w.net.now list s many → Taken w.net.now.kind list w.ins.begin slots' (row s) many ring ring' → Held w.net.now lab (s + many) ring'
           held_later (inl a) (inr b) = absurd (let y : ⊥ = omega arith in y)
           held_later (inr a) (inl b) = absurd (let y : ⊥ = omega arith in y)
           held_later (inl a) (inl b) =
@@ -125,7 +125,7 @@ module _ (w : Wiring) (lab truth : List ℕ) where
                     let net = w.net.now in
                     let k = fresh.from i l in
                     let q : s ≡ t = omega (arith, strides_alone strides d) in
-                    subst (λ x. Slots w.ins.list net.from net.count net.start x (at w.ins.begin (at list' i)) (at w.ins.begin (suc (at list' i))) slots') q
-                    (subst (λ v. Slots w.ins.list net.from net.count net.start s (at w.ins.begin v) (at w.ins.begin (suc v)) slots') k.2 (right k.0 k.1));
+                    subst (λ x. Slots w.ins.list net x (at w.ins.begin (at list' i)) (at w.ins.begin (suc (at list' i))) slots') q
+                    (subst (λ v. Slots w.ins.list net s (at w.ins.begin v) (at w.ins.begin (suc v)) slots') k.2 (right k.0 k.1));
                 held = held_later strides taken;
               }

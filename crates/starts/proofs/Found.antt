@@ -87,7 +87,7 @@ module _ (net : Netlist) (lab counts : List ℕ) (m : Moving net lab counts) (e 
       ∙ ap (word_of (start_at net lab c e)) count
 
 -- An edge shows a node behind 32 registers at most.
-pub shown_rows : (net : Netlist) (lab : List ℕ) → Labelled net lab → (e : ℕ) → e < net.edges → EdgeRows net.from net.count e
+pub shown_rows : (net : Netlist) (lab : List ℕ) → Labelled net lab → (e : ℕ) → e < net.edges → EdgeRows net e
 shown_rows net lab s e h = record {
   low = omega (arith, low_edges net lab s);
   source = omega (arith, from_node net lab s e h, low_nodes net lab s);

@@ -54,7 +54,7 @@ module _ (net : Netlist) (lab : List ℕ) (m : Labelled net lab) where
 
 pub shows : (net : Netlist) (ring : List ℕ) → at ring 32768 ≡ 0 → at ring 32769 ≡ 1 → (s e : ℕ)
     → ((t : ℕ) → at net.count e + t ≡ s → at ring (row t + at net.from e) ≡ quietly net (at net.from e) t)
-    → at ring (edge_slot net.from net.count net.start s e) ≡ seen (graph_of net) (regs_of net) (quietly net) e s
+    → at ring (edge_slot net s e) ≡ seen (graph_of net) (regs_of net) (quietly net) e s
 shows net ring zeroth one s e late = go (dec_lt s w)
   where
     u : ℕ
@@ -68,7 +68,7 @@ shows net ring zeroth one s e late = go (dec_lt s w)
     either (suc zero) l = one
     either (suc (suc b)) l = absurd (omega arith)
 
-    go : Dec (s < w) → at ring (edge_slot net.from net.count net.start s e) ≡ seen (graph_of net) (regs_of net) (quietly net) e s
+    go : Dec (s < w) → at ring (edge_slot net s e) ≡ seen (graph_of net) (regs_of net) (quietly net) e s
     go (yes h) =
         ap (at ring) (slot_early u w (at net.start e) s h) ∙ either (bit (at net.start e) s) (omega arith)
         ∙ sym (seen_early (graph_of net) (regs_of net) (quietly net) e s h)
@@ -141,8 +141,8 @@ module _ (net : Netlist) (lab : List ℕ) (m : Labelled net lab) (s : ℕ) (ring
       go v t h a b c (no z) = more v t h (omega arith) a b
 
 pub node_right : (net : Netlist) (lab : List ℕ) → Steppable net → Labelled net lab → (ins first : List ℕ) → Entering net ins first → (slots ring : List ℕ) → net.edges ≤ length ins → net.edges ≤ length slots
-    → (s v : ℕ) → v < net.nodes → AskedAt lab s v → Slots ins net.from net.count net.start s (at first v) (at first (suc v)) slots
-    → ((e : ℕ) → e < net.edges → at net.to e ≡ v → at ring (edge_slot net.from net.count net.start s e) ≡ seen (graph_of net) (regs_of net) (quietly net) e s)
+    → (s v : ℕ) → v < net.nodes → AskedAt lab s v → Slots ins net s (at first v) (at first (suc v)) slots
+    → ((e : ℕ) → e < net.edges → at net.to e ≡ v → at ring (edge_slot net s e) ≡ seen (graph_of net) (regs_of net) (quietly net) e s)
     → gate (at net.kind v) (map (at ring) (part slots (at first v) (at first (suc v)))) ≡ quietly net v s
 unfolding sees
 node_right net lab ok m ins first en slots ring rows size s v in_nodes a right edge_right =
@@ -151,7 +151,7 @@ node_right net lab ok m ins first en slots ring rows size s v in_nodes a right e
     ∙ sym ((quiet_trace net ok).at_gate v s in_nodes (asked_gate net lab m v s in_nodes a))
   where
     shown : ℕ → ℕ
-    shown e = at ring (edge_slot net.from net.count net.start s e)
+    shown e = at ring (edge_slot net s e)
 
     lo : ℕ
     lo = at first v

@@ -25,7 +25,7 @@ use Rattle.graph.proofs.Parts.{map_at}
 use Rattle.gates.specs.inner.Gates.{part, AllBits, Narrow, Reckons, InputRows, Evaluable, Truths}
 use Rattle.gates.proofs.Words.{part_at}
 use Rattle.gates.proofs.Row.{bits_set, evaluable_cut, truths_cut, evaluated_cut, cut_length}
-use Rattle.netlist.specs.Net.{zeros}
+use Rattle.netlist.specs.declared.Netlist.{Netlist}
 use Rattle.netlist.proofs.Rows.{zeros_at}
 use Rattle.starts.specs.inner.Ring.{row, edge_slot, EdgeRows, further}
 use Rattle.starts.specs.inner.Ahead.{turned, ahead, all_ahead, Strides}
@@ -36,11 +36,11 @@ unfolding turned
 turned_low zero c size h l = h
 turned_low (suc j) c size h l = omega arith
 
-pub turned_edge : (from count start : List ℕ) (e s : ℕ) → EdgeRows from count e → 32 ≤ s → (j : ℕ) → turned j (edge_slot from count start s e) ≡ edge_slot from count start (s + j) e
+pub turned_edge : (net : Netlist) (e s : ℕ) → EdgeRows net e → 32 ≤ s → (j : ℕ) → turned j (edge_slot net s e) ≡ edge_slot net (s + j) e
 unfolding turned
-turned_edge from count start e s r h zero = ap (λ t. edge_slot from count start t e) (let z : s ≡ s + 0 = omega arith in z)
-turned_edge from count start e s r h (suc j) =
-    ap further (turned_edge from count start e s r h j) ∙ edge_turn from count start e (s + j) (s + suc j) r (omega arith) (omega arith)
+turned_edge net e s r h zero = ap (λ t. edge_slot net t e) (let z : s ≡ s + 0 = omega arith in z)
+turned_edge net e s r h (suc j) =
+    ap further (turned_edge net e s r h j) ∙ edge_turn net e (s + j) (s + suc j) r (omega arith) (omega arith)
 
 module _ (kind : ℕ) (sees : List ℕ) (place : ℕ) (ring : List ℕ) where
   ahead_more : (j : ℕ) → ahead kind sees place (j + 1) ring
@@ -113,11 +113,11 @@ module _ (truth : ℕ) (sees : List ℕ) (place : ℕ) (ring : List ℕ) (rows :
 
 -- ── How many clocks ─────────────────────────────────────────────────────────────────────────
 
-module _ {from to count list : List ℕ} {edges s r : ℕ} where
-  pub strides_some : Strides from to count edges list s r → (0 < r) × (r ≤ 32)
+module _ {net : Netlist} {list : List ℕ} {s r : ℕ} where
+  pub strides_some : Strides net list s r → (0 < r) × (r ≤ 32)
   strides_some (inl a) = (omega arith, omega arith)
   strides_some (inr a) = (omega arith, omega arith)
 
-  pub strides_alone : Strides from to count edges list s r → 0 < (s + r) % 32 → r ≡ 1
+  pub strides_alone : Strides net list s r → 0 < (s + r) % 32 → r ≡ 1
   strides_alone (inl a) z = a
   strides_alone (inr a) z = absurd (let y : ⊥ = omega (arith, a.0, a.2) in y)

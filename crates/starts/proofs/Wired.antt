@@ -27,5 +27,5 @@ module _ (w : Wiring) where
   pub to_low : (e : ℕ) → e < w.net.now.edges → at w.net.now.to e < 512
   to_low e h = omega (arith, w.few_nodes, (fit_wired w.net.now w.steppable.fit).dst_in e h)
 
-  pub shown_rows : (e : ℕ) → e < w.net.now.edges → EdgeRows w.net.now.from w.net.now.count e
+  pub shown_rows : (e : ℕ) → e < w.net.now.edges → EdgeRows w.net.now e
   shown_rows e h = record { low = omega (arith, w.few_edges); source = from_low e h; width = count_low w.net.now w.steppable.fit e h }

@@ -71,6 +71,8 @@ fn gate_ahead(truth: u16, index: &IndexTable, sees: &[u16], place: usize, ring: 
 }
 
 // 32 clocks of the gates of the list, in turn: the first value of gate v goes to base + v.
+// Kept: this walk differs from `gates::evaluate` in the step alone. Were the step a closure, it would be lent the ring at each turn, and the walk would ask of it and
+// promise of it all that the step itself does here.
 fn evaluate_ahead(gates: GateList<'_>, base: usize, ring: &mut [u8; SLOTS])
     requires { Evaluable gates.node.now gates.truth.now gates.first.now gates.list.now (length gates.node.now) (base + 15872) ring.old }
     ensures { (kind : List ℕ) → Truths kind gates.entry.node.now gates.entry.truth.now gates.entry.first.now (length gates.entry.node.now)
@@ -114,7 +116,7 @@ impl<'a> Wiring<'a> {
 
     // Whether each edge between two nodes of the list leads on in it or has 32 registers.
     fn leads_on(&self, place: &[Option<u16>; NODES]) -> bool
-        ensures { IsTrue result → LeadsOn self.now.net.now.from self.now.net.now.to self.now.net.now.count self.now.net.now.edges place.now }
+        ensures { IsTrue result → LeadsOn self.now.net.now place.now }
     {
         !(0..self.net.edges as usize).any(|e| self.leads_back(place, e))
     }
@@ -123,7 +125,7 @@ impl<'a> Wiring<'a> {
     // Kept: a number and no enum: it is how many clocks are added to s, so an enum would be turned back into it at once.
     pub fn stride(&self, list: &[u16], s: usize) -> usize
         requires { (length list.now ≤ 512) × All (λ v. v < self.now.net.now.nodes) list.now }
-        ensures { Strides self.now.net.now.from self.now.net.now.to self.now.net.now.count self.now.net.now.edges list.now s result }
+        ensures { Strides self.now.net.now list.now s result }
     {
         if SPELL <= s && s % SPELL == 0 && self.leads_on(&places_of(list)) {
             SPELL

@@ -37,7 +37,7 @@ pub struct Shown {
 impl Shown {
     // Of edge e.
     pub fn of(net: &Netlist, e: usize) -> Shown
-        requires { EdgeRows net.now.from net.now.count e }
+        requires { EdgeRows net.now e }
         ensures from { result.from ≡ at net.now.from e }
         ensures registers { result.registers ≡ at net.now.count e }
         ensures start { result.start ≡ at net.now.start e }

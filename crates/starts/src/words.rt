@@ -7,13 +7,12 @@ ghost use Rattle.moves.specs.inner.Labels.{lags_of, chosen_at};
 ghost use Rattle.moves.specs.inner.Moving.{Moving};
 ghost use Rattle.moves.specs.inner.Chosen.{EdgeWords, ShortWords};
 ghost use Rattle.moves.specs.Moved.{word_of, moved_net};
-ghost use Rattle.moves.specs.inner.Columns.{Filled, none};
-ghost use Rattle.starts.specs.inner.Starts.{shown_slot, starts_at};
+ghost use Rattle.starts.specs.inner.Starts.{shown_slot};
 
 use crate::BIAS;
 use crate::ring::ring_of;
 use crate::shown::{SLOTS, Shown};
-use graph::{EDGES, column};
+use graph::column;
 use lags::up_of;
 use moves::{Move, bytes_of, chosen_on, put_bit};
 use netlist::Netlist;
@@ -65,18 +64,6 @@ impl Filling {
     }
 }
 
-// The new start values, as words: the chosen ones, then those that the original shows.
-fn starts_of(from: Move<'_>, counts: &[u32], words: &[u32]) -> [u32; EDGES]
-    requires { Moving from.net.now from.lab.now counts.now × ShortWords from.net.now (lags_of from.lab.now) words.now }
-    ensures { (c : ℕ) → EdgeWords from.entry.net.now (lags_of from.entry.lab.now) c words.now
-        → Filled (starts_at from.entry.net.now from.entry.lab.now counts.now c) none from.entry.net.now.edges result }
-{
-    let ring = ring_of(from);
-    column(from.net.edges as usize, 0, |e| {
-        Filling::of(from, counts, words, e).filled(&ring)
-    })
-}
-
 // "Moved by lags and a choice, a netlist keeps its head, its nodes and the ends of its edges, and each edge gets its new count and new start values."
 // The choice comes as words: of each edge its chosen values, bit t for clock t.
 pub fn moved(from: Move<'_>, counts: &[u32], words: &[u32]) -> Netlist
@@ -85,9 +72,13 @@ pub fn moved(from: Move<'_>, counts: &[u32], words: &[u32]) -> Netlist
         → result ≡ moved_net from.entry.net.now (lags_of from.entry.lab.now) c }
 {
     let net = from.net;
+    let edges = net.edges as usize;
+    let ring = ring_of(from);
     Netlist {
-        count: bytes_of(&counts[..net.edges as usize]),
-        start: starts_of(from, counts, words),
+        count: bytes_of(&counts[..edges]),
+        start: column(edges, 0, |e| {
+            Filling::of(from, counts, words, e).filled(&ring)
+        }),
         ..*net
     }
 }

@@ -11,6 +11,7 @@ use Rattle.theory.specs.Gate.{gate}
 use Rattle.graph.specs.Columns.{at}
 use Rattle.graph.specs.inner.Sort.{Places, place_in}
 use Rattle.gates.specs.inner.Gates.{part, evaluated}
+use Rattle.netlist.specs.declared.Netlist.{Netlist}
 use Rattle.starts.specs.inner.Ring.{further}
 
 unfoldable pub turned : ℕ → ℕ → ℕ
@@ -30,17 +31,17 @@ all_ahead kind node first slots base (suc n) ring =
     let v = at node n in
     ahead (at kind v) (part slots (at first v) (at first (suc v))) (base + v) 32 (all_ahead kind node first slots base n ring)
 
-abbrev pub LeadsOn : List ℕ → List ℕ → List ℕ → ℕ → List (Option ℕ) → Type 0
-LeadsOn from to count edges place =
-    (e x y : ℕ) → e < edges → place_in place (at from e) ≡ Some x → place_in place (at to e) ≡ Some y → at count e < 32 → x < y
+abbrev pub LeadsOn : Netlist → List (Option ℕ) → Type 0
+LeadsOn net place =
+    (e x y : ℕ) → e < net.edges → place_in place (at net.from e) ≡ Some x → place_in place (at net.to e) ≡ Some y → at net.count e < 32 → x < y
 
-pub record Leading (from to count : List ℕ) (edges : ℕ) (list : List ℕ) : Type 0 where
+pub record Leading (net : Netlist) (list : List ℕ) : Type 0 where
   pub place : List (Option ℕ)
   pub places : Places list (length list) place
-  pub leads : LeadsOn from to count edges place
+  pub leads : LeadsOn net place
 
-abbrev pub Strides : List ℕ → List ℕ → List ℕ → ℕ → List ℕ → ℕ → ℕ → Type 0
-Strides from to count edges list s r = (r ≡ 1) ⊎ ((r ≡ 32) × (32 ≤ s) × (s % 32 ≡ 0) × Leading from to count edges list)
+abbrev pub Strides : Netlist → List ℕ → ℕ → ℕ → Type 0
+Strides net list s r = (r ≡ 1) ⊎ ((r ≡ 32) × (32 ≤ s) × (s % 32 ≡ 0) × Leading net list)
 
 abbrev pub Taken : List ℕ → List ℕ → List ℕ → List ℕ → ℕ → ℕ → List ℕ → List ℕ → Type 0
 Taken kind node first slots base clocks ring ring' =

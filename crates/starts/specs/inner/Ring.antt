@@ -45,24 +45,24 @@ pub record NothingYet (ring : List ℕ) : Type 0 where
 unfoldable pub slot_of : ℕ → ℕ → ℕ → ℕ → ℕ
 slot_of u w word s = cond (ltb s w) (32768 + bit word s) (row (s - w) + u)
 
-abbrev pub edge_slot : List ℕ → List ℕ → List ℕ → ℕ → ℕ → ℕ
-edge_slot from count start s e = slot_of (at from e) (at count e) (at start e) s
+abbrev pub edge_slot : Netlist → ℕ → ℕ → ℕ
+edge_slot net s e = slot_of (at net.from e) (at net.count e) (at net.start e) s
 
-abbrev pub Slots : List ℕ → List ℕ → List ℕ → List ℕ → ℕ → ℕ → ℕ → List ℕ → Type 0
-Slots ins from count start s lo hi slots = (k : ℕ) → lo ≤ k → k < hi → at slots k ≡ edge_slot from count start s (at ins k)
+abbrev pub Slots : List ℕ → Netlist → ℕ → ℕ → ℕ → List ℕ → Type 0
+Slots ins net s lo hi slots = (k : ℕ) → lo ≤ k → k < hi → at slots k ≡ edge_slot net s (at ins k)
 
-pub record Puts (ins from count start : List ℕ) (s lo hi : ℕ) (old new : List ℕ) : Type 0 where
-  pub done : Slots ins from count start s lo hi new
+pub record Puts (ins : List ℕ) (net : Netlist) (s lo hi : ℕ) (old new : List ℕ) : Type 0 where
+  pub done : Slots ins net s lo hi new
   pub rest : (k : ℕ) → (k < lo) ⊎ (hi ≤ k) → at new k ≡ at old k
 
 abbrev pub further : ℕ → ℕ
 further c = (c % 32768 + 512) % 32768
 
 -- The edges that enter node v stand from place first(v) up to first(v + 1).
-abbrev pub SlotsOf : List ℕ → ℕ → List ℕ → List ℕ → List ℕ → List ℕ → List ℕ → ℕ → List ℕ → Type 0
-SlotsOf list n first ins from count start s slots = (i : ℕ) → i < n → Slots ins from count start s (at first (at list i)) (at first (suc (at list i))) slots
+abbrev pub SlotsOf : List ℕ → ℕ → List ℕ → List ℕ → Netlist → ℕ → List ℕ → Type 0
+SlotsOf list n first ins net s slots = (i : ℕ) → i < n → Slots ins net s (at first (at list i)) (at first (suc (at list i))) slots
 
-pub record EdgeRows (from count : List ℕ) (e : ℕ) : Type 0 where
+pub record EdgeRows (net : Netlist) (e : ℕ) : Type 0 where
   pub low : e < 1024
-  pub source : at from e < 512
-  pub width : at count e ≤ 32
+  pub source : at net.from e < 512
+  pub width : at net.count e ≤ 32

@@ -7,7 +7,7 @@ use Rattle.starts.specs.declared.wiring.Wiring.{Wiring}
 use Rattle.starts.specs.inner.Ring.{Puts, SlotsOf}
 
 abbrev pub NodeSlots : Wiring → ℕ → ℕ → List ℕ → List ℕ → Type 0
-NodeSlots w v s old new = let net = w.net.now in Puts w.ins.list net.from net.count net.start s (at w.ins.begin v) (at w.ins.begin (suc v)) old new
+NodeSlots w v s old new = Puts w.ins.list w.net.now s (at w.ins.begin v) (at w.ins.begin (suc v)) old new
 
 abbrev pub ListSlots : Wiring → List ℕ → ℕ → ℕ → List ℕ → Type 0
-ListSlots w list n s slots = let net = w.net.now in SlotsOf list n w.ins.begin w.ins.list net.from net.count net.start s slots
+ListSlots w list n s slots = SlotsOf list n w.ins.begin w.ins.list w.net.now s slots

@@ -25,7 +25,7 @@ loop-k-preserved c =
     let net = w.net.now in
     let e = at w.ins.list l.k in
     let o = c.of.ensures in
-    let is : c.slot.result ≡ edge_slot net.from net.count net.start a.s e =
+    let is : c.slot.result ≡ edge_slot net a.s e =
     c.slot.ensures ∙ ap₂ (λ u w. slot_of u w c.of.result.start a.s) o.from o.registers ∙ ap (λ x. slot_of (at net.from e) (at net.count e) x a.s) o.start in
     let room : l.k < length l.slots = omega (arith, w.ins.within (a.v + 1) (omega arith), w.few_nodes) in
-    puts_more w.ins.list net.from net.count net.start a.s (at w.ins.begin a.v) l.k a.slots.now l.slots c.slot.result is room (omega arith) l.invariant
+    puts_more w.ins.list net a.s (at w.ins.begin a.v) l.k a.slots.now l.slots c.slot.result is room (omega arith) l.invariant

@@ -21,4 +21,4 @@ returns-then-s-gt0 c =
     let b : k < net.edges = omega (arith, (wired w).within (at a.list.now i) v) in
     get_or_append_left c.advance.new.slots _ 0 k (omega (arith, c.advance.auto.slots, wide))
     ∙ c.advance.ensures k (omega (arith, wide)) ∙ ap further (get_or-take net.edges a.slots.now k 0 b ∙ c.requires.before t late q c.if-s-gt0.true i l k x y)
-    ∙ edge_turn net.from net.count net.start (at w.ins.list k) t a.s (shown_rows w (at w.ins.list k) ((wired w).edge k b)) late q
+    ∙ edge_turn net (at w.ins.list k) t a.s (shown_rows w (at w.ins.list k) ((wired w).edge k b)) late q
