@@ -66,7 +66,7 @@ module _ (net : Netlist) (lab : List ℕ) (ok : Steppable net) (m : Labelled net
           let y : s + (t - s) ≡ t = omega arith in
           let k = has_last u x in
           subst (λ c. at ring (row c + u) ≡ quietly net u c) y
-          (passed u k.0 (t - s) (from_node net lab m e l) k.1 (p.leads e k.0 i l k.1 q (omega arith)) (omega arith) (subst (λ c. AskedAt lab c u) (sym y) b))
+          (passed u k.0 (t - s) (from_node net lab m e l) k.1 (p.leads e l k.0 i k.1 q (omega arith)) (omega arith) (subst (λ c. AskedAt lab c u) (sym y) b))
 
   module _ (i : ℕ) (h : i < length list) where
     abbrev v : ℕ

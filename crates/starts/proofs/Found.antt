@@ -1,4 +1,5 @@
 -- The new start values of an edge: the chosen ones, and those that the ring shows.
+--   start_at, starts_at new start value t of an edge; all of them, as a word
 --   chosen_found        the chosen ones are its first new start values
 --   fillable            what filling up the word asks
 --   shown_found         the others stand in the ring
@@ -29,9 +30,16 @@ use Rattle.moves.proofs.Labels.{from_node, low_edges, low_nodes, new_fits, new_i
 use Rattle.moves.proofs.Moved.{with_is}
 use Rattle.starts.specs.declared.words.Filling.{Filling}
 use Rattle.starts.specs.inner.Ring.{Followed, EdgeRows}
-use Rattle.starts.specs.inner.Starts.{start_at, shown_slot, starts_at}
+use Rattle.starts.specs.inner.Starts.{shown_slot}
 use Rattle.starts.proofs.Quiet.{new_chosen, new_seen}
 use Rattle.starts.proofs.Held.{shows}
+
+-- Of the netlist moved by the labels' lags and the choice c.
+abbrev pub start_at : Netlist → List ℕ → ℕ → ℕ → ℕ → ℕ
+start_at net lab c e t = (retimed_at net (lags_of lab) c).start e t
+
+abbrev pub starts_at : Netlist → List ℕ → List ℕ → ℕ → ℕ → ℕ
+starts_at net lab counts c e = word_of (start_at net lab c e) (at counts e)
 
 module _ (net : Netlist) (lab counts : List ℕ) (m : Moving net lab counts) (e : ℕ) (h : e < net.edges) (chosen : ℕ) (is : chosen ≡ chosen_at net lab e) where
   many : chosen ≡ min (at counts e) (at lab (at net.to e) - 16384)

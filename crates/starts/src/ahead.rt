@@ -1,12 +1,11 @@
 // 32 clocks of a gate in a row, before the next gate is looked at. Each edge between two gates of the list leads on in it or has 32 registers: what a gate sees
 // is of a clock before the 32, or of a gate passed already, which has them all.
 // Private to the crate: `follow` comes here from clock 32 on, when no start value shows any more.
-ghost use Rattle.std.specs.Prelude.{◌≡◌, IsTrue, false, Option, Some, List, ℕ, ◌+◌, ◌<◌, ◌≤◌, length, All};
+ghost use Rattle.std.specs.Prelude.{◌≡◌, IsTrue, false, List, ℕ, ◌+◌, ◌<◌, ◌≤◌, length, All};
 ghost use Rattle.graph.specs.Columns.{at};
-ghost use Rattle.graph.specs.inner.Sort.{place_in};
 ghost use Rattle.gates.specs.inner.Gates.{AllBits, Reckons, InputRows, Evaluable, Truths};
 ghost use Rattle.starts.specs.inner.Ring.{row, further};
-ghost use Rattle.starts.specs.inner.Ahead.{ahead, all_ahead, LeadsOn, Strides, Taken};
+ghost use Rattle.starts.specs.inner.Ahead.{ahead, all_ahead, Leads, LeadsOn, Strides, Taken};
 
 use crate::shown::{CLOCKS, SLOTS};
 use crate::wiring::Wiring;
@@ -71,8 +70,8 @@ fn gate_ahead(truth: u16, index: &IndexTable, sees: &[u16], place: usize, ring: 
 }
 
 // 32 clocks of the gates of the list, in turn: the first value of gate v goes to base + v.
-// Kept: this walk differs from `gates::evaluate` in the step alone. Were the step a closure, it would be lent the ring at each turn, and the walk would ask of it and
-// promise of it all that the step itself does here.
+// Kept: the walk is that of `gates::evaluate`, two lines, with another step. A step that is handed in would write the ring that it captures, so that a shared walk
+// could promise no more than that the steps were taken in turn.
 fn evaluate_ahead(gates: GateList<'_>, base: usize, ring: &mut [u8; SLOTS])
     requires { Evaluable gates.node.now gates.truth.now gates.first.now gates.list.now (length gates.node.now) (base + 15872) ring.old }
     ensures { (kind : List ℕ) → Truths kind gates.entry.node.now gates.entry.truth.now gates.entry.first.now (length gates.entry.node.now)
@@ -104,8 +103,7 @@ impl<'a> Wiring<'a> {
     #[tactic(auto, using(crate::proofs::Wired::from_low, crate::proofs::Wired::to_low))]
     fn leads_back(&self, place: &[Option<u16>; NODES], e: usize) -> bool
         requires { e < self.now.net.now.edges }
-        ensures { result ≡ false → (x y : ℕ) → place_in place.now (at self.now.net.now.from e) ≡ Some x → place_in place.now (at self.now.net.now.to e) ≡ Some y
-            → at self.now.net.now.count e < 32 → x < y }
+        ensures { result ≡ false → Leads self.now.net.now place.now e }
     {
         let net = self.net;
         match (place[net.from[e] as usize], place[net.to[e] as usize]) {

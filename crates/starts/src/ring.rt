@@ -3,7 +3,7 @@
 // So no register is moved: an edge with w registers shows what its source had w clocks before, or a start value.
 // Nodes whose lag is below 0 are followed, each at least up to the clock before minus its lag and at most 31 clocks further: the last 32 values before that
 // clock, which are all that a new start value or a node that is followed longer can ask for, are then still in the ring.
-// Private to the crate: `starts_of` comes here with the labels of a legal retiming of a netlist that passed the rules.
+// Private to the crate: `moved` comes here with the labels of a legal retiming of a netlist that passed the rules.
 ghost use Rattle.std.specs.Prelude.{ℕ, ◌+◌, ◌<◌, ◌≤◌, length};
 ghost use Rattle.graph.specs.Columns.{at};
 ghost use Rattle.starts.specs.inner.Ring.{Followed, NothingYet};
@@ -78,6 +78,7 @@ pub fn ring_of(from: Move<'_>) -> [u8; SLOTS]
     ensures { Followed from.entry.net.now from.entry.lab.now result }
 {
     let clocks = clocks_asked(&from.lab[..from.net.nodes as usize]);
+    // Where no lag is below 0, nothing has to be made ready.
     if clocks == 0 {
         return empty();
     }

@@ -2,7 +2,8 @@
 --   turned j c          slot c, j rows further
 --   ahead               the ring after j clocks of a gate
 --   all_ahead           the ring after 32 clocks of each of the first n gates of a list, each from those before it
---   LeadsOn             each edge between two nodes of the list leads on in it, or has 32 registers
+--   Leads               an edge between two nodes of a list leads on in it, by their places, or has 32 registers
+--   LeadsOn             each edge does
 --   Leading             so for the places in the list
 --   Strides             how many clocks are taken at clock s: one, or 32 from there on
 --   Taken               the ring after one clock of a list, or 32
@@ -31,9 +32,11 @@ all_ahead kind node first slots base (suc n) ring =
     let v = at node n in
     ahead (at kind v) (part slots (at first v) (at first (suc v))) (base + v) 32 (all_ahead kind node first slots base n ring)
 
+abbrev pub Leads : Netlist → List (Option ℕ) → ℕ → Type 0
+Leads net place e = (x y : ℕ) → place_in place (at net.from e) ≡ Some x → place_in place (at net.to e) ≡ Some y → at net.count e < 32 → x < y
+
 abbrev pub LeadsOn : Netlist → List (Option ℕ) → Type 0
-LeadsOn net place =
-    (e x y : ℕ) → e < net.edges → place_in place (at net.from e) ≡ Some x → place_in place (at net.to e) ≡ Some y → at net.count e < 32 → x < y
+LeadsOn net place = (e : ℕ) → e < net.edges → Leads net place e
 
 pub record Leading (net : Netlist) (list : List ℕ) : Type 0 where
   pub place : List (Option ℕ)
