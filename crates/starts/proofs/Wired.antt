@@ -1,4 +1,5 @@
 -- The edges of a netlist that keeps the rules, sorted by the node that they enter.
+--   low_nodes           no more nodes than a record has rows
 --   wired               what each node's gate sees, by place
 --   node_edge           the edges listed for a node are edges
 --   from_low, to_low    an edge joins two nodes
@@ -8,11 +9,16 @@ use native.Mathlib.Omega.{arith}
 use native.Mathlib.Numerals.{add-one}
 use mathlib.Core.Path.{ap}
 use Rattle.graph.specs.Columns.{at}
-use Rattle.netlist.proofs.Run.{fit_wired}
+use Rattle.netlist.specs.declared.Netlist.{Netlist}
+use Rattle.netlist.proofs.Run.{fit_rows, fit_wired}
 use Rattle.netlist.proofs.Lowest.{count_low}
+use Rattle.simulate.specs.inner.Ran.{Steppable}
 use Rattle.simulate.proofs.Seen.{Entering, entering}
 use Rattle.starts.specs.declared.wiring.Wiring.{Wiring}
 use Rattle.starts.specs.inner.Ring.{EdgeRows}
+
+pub low_nodes : (net : Netlist) → Steppable net → net.nodes ≤ 512
+low_nodes net ok = (fit_rows net ok.fit).0
 
 module _ (w : Wiring) where
   pub wired : Entering w.net.now w.ins.list w.ins.begin

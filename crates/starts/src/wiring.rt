@@ -22,6 +22,7 @@ pub struct Wiring<'a> {
 }
 
 // The truth words of the nodes, of which `ins` has the edges that enter them.
+#[tactic(auto, using(crate::proofs::Wired::low_nodes))]
 pub fn truths_of(net: &Netlist, ins: &EdgesByNode) -> [u16; NODES]
     requires { Steppable net.now × Sorts net.now.to net.now.edges net.now.nodes (replicate 1024 0) ins.now.list ins.now.begin }
     ensures { (v : ℕ) → v < net.now.nodes → Reckons (at net.now.kind v) (at ins.now.begin (suc v) - at ins.now.begin v) (at result v) }

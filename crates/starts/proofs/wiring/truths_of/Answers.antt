@@ -11,9 +11,6 @@ use Rattle.starts.proofs.wiring.truths_of.Goals as goal
 cut : (net : Netlist) → length net.kind ≡ 512 → net.nodes ≤ 512 → (length (take net.nodes net.kind) ≡ net.nodes) × ((v : ℕ) → v < net.nodes → at (take net.nodes net.kind) v ≡ at net.kind v)
 cut net h l = (omega (arith, length-take net.nodes net.kind), λ v b. get_or-take net.nodes net.kind v 0 b)
 
-pub shared_ref_as_front-put_truths : goal.shared_ref_as_front-put_truths
-shared_ref_as_front-put_truths c = (fit_rows c.args.net.now c.requires.0.fit).0
-
 pub put_truths-requires-clause-gates_in_bounds : goal.put_truths-requires-clause-gates_in_bounds
 put_truths-requires-clause-gates_in_bounds c =
     let net = c.args.net.now in
