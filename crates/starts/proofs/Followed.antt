@@ -2,8 +2,7 @@
 --   Ready               the labels of a legal retiming, and the truth words
 --   Following           before clock s: the list is right for it, the slots are for the clock before, the ring holds what is needed
 --   following_start     before clock 0
---   following_nodes     the list has nodes
---   following_takes     they can be evaluated, one clock or 32
+--   following_takes     the nodes can be evaluated, one clock or 32
 --   following_truths    their truth words are those of the kinds
 --   following_next      one clock, or 32, and the list looked through
 use Prim.Native.Nat.{ℕ, suc, ◌+◌, ◌*◌, ◌-◌, ◌/◌, ◌%◌, ◌<◌, ◌≤◌}
@@ -12,7 +11,6 @@ use mathlib.Core.Path.{◌≡◌, sym, subst}
 use mathlib.Core.Logic.{◌⊎◌, inl, inr, ⊎_elim}
 use mathlib.Core.List.{List}
 use lib.ListN.{length, take}
-use Rattle.std.specs.List.{All}
 use Rattle.graph.specs.Columns.{at}
 use Rattle.graph.specs.inner.Sort.{Ordered}
 use Rattle.graph.specs.inner.Lists.{Filtered}
@@ -24,7 +22,7 @@ use Rattle.starts.specs.inner.Ahead.{Strides, Taken}
 use Rattle.starts.specs.inner.Wired.{ListSlots}
 use Rattle.starts.proofs.Slots.{slot_in}
 use Rattle.starts.proofs.Wired.{wired, shown_rows}
-use Rattle.starts.proofs.Listed.{Listed, listed_below, listed_start, listed_later, Refreshed, refreshed}
+use Rattle.starts.proofs.Listed.{Listed, listed_start, listed_later, refreshed}
 use Rattle.starts.proofs.Held.{Held, held_start}
 use Rattle.starts.proofs.Clock.{held_next}
 use Rattle.starts.proofs.Turned.{strides_alone}
@@ -62,9 +60,6 @@ module _ (w : Wiring) (lab truth : List ℕ) where
   module _ (s : ℕ) (list slots ring : List ℕ) (f : Following w lab truth s list slots ring) where
     in_nodes : (i : ℕ) → i < length list → at list i < w.net.now.nodes
     in_nodes = f.listed.nodes_only
-
-    pub following_nodes : (size : ℕ) → w.net.now.nodes ≤ size → All (λ v. v < size) list
-    following_nodes = listed_below f.listed
 
     pub following_truths : Truths w.net.now.kind list truth w.ins.begin (length list)
     following_truths i l = f.ready.truths (at list i) (in_nodes i l)

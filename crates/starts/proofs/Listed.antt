@@ -1,6 +1,5 @@
 -- The nodes that are evaluated in a clock.
 --   Listed              all that are asked for in clock s, each after the sources that it sees in the same clock
---   listed_below        they are nodes
 --   listed_start        all nodes in evaluation order
 --   listed_later        k clocks later
 --   Refreshed, refreshed    looked through
@@ -10,8 +9,7 @@ use mathlib.Core.Path.{◌≡◌, refl, sym, ◌∙◌, subst}
 use mathlib.Core.Logic.{◌⊎◌, inl, inr}
 use mathlib.Core.List.{List}
 use lib.ListN.{length, take}
-use Rattle.std.specs.List.{All}
-use Rattle.std.proofs.lemmas.List.{length-take-le, get_or-take, get_or_default}
+use Rattle.std.proofs.lemmas.List.{length-take-le, get_or-take}
 use Rattle.graph.specs.Columns.{at}
 use Rattle.graph.specs.inner.Sort.{Stands, Ordered}
 use Rattle.graph.specs.inner.Lists.{Filtered}
@@ -23,9 +21,6 @@ pub record Listed (net : Netlist) (lab : List ℕ) (s : ℕ) (list : List ℕ) :
   pub nodes_only : (i : ℕ) → i < length list → at list i < net.nodes
   pub every : (v : ℕ) → v < net.nodes → AskedAt lab s v → Stands list (length list) v
   pub sources_first : (i e : ℕ) → i < length list → e < net.edges → at net.to e ≡ at list i → at net.count e ≡ 0 → AskedAt lab s (at net.from e) → Stands list i (at net.from e)
-
-pub listed_below : {net : Netlist} {lab list : List ℕ} {s : ℕ} → Listed net lab s list → (size : ℕ) → net.nodes ≤ size → All (λ v. v < size) list
-listed_below {net} {lab} {list} w size h k d l = subst (λ v. v < size) (get_or_default list k 0 d l) (omega (arith, w.nodes_only k l))
 
 pub listed_start : (net : Netlist) (lab order : List ℕ) → net.nodes ≤ length order → Ordered net.nodes net.edges net.from net.to net.count order
     → Listed net lab 0 (take net.nodes order)

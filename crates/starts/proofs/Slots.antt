@@ -4,10 +4,9 @@
 --   slot_in             in the ring
 --   slot_turn, edge_turn    past the start values, in the next clock a row further
 --   puts_more           the slots put at the places of one node, a place at a time
-use Prim.Native.Nat.{ℕ, suc, ◌+◌, ◌-◌, ◌<◌, ◌≤◌}
+use Prim.Native.Nat.{ℕ, ◌+◌, ◌-◌, ◌<◌, ◌≤◌}
 use native.Mathlib.Omega.{arith}
-use native.Mathlib.Numerals.{add-one}
-use native.Mathlib.Decide.{ℕ_discrete, dec_lt, dec_le}
+use native.Mathlib.Decide.{ℕ_discrete, dec_lt}
 use mathlib.Core.Path.{◌≡◌, sym, subst, ap, ◌∙◌}
 use mathlib.Core.Logic.{◌⊎◌, inl, inr}
 use mathlib.Core.List.{List}
@@ -18,7 +17,7 @@ use Rattle.graph.specs.Columns.{at, bit}
 use Rattle.netlist.specs.declared.Netlist.{Netlist}
 use Rattle.netlist.specs.Net.{zeros}
 use Rattle.netlist.proofs.Rows.{zeros_at}
-use Rattle.starts.specs.inner.Ring.{row, NothingYet, slot_of, edge_slot, further, Puts, SlotsOf, EdgeRows}
+use Rattle.starts.specs.inner.Ring.{row, NothingYet, slot_of, edge_slot, further, Puts, EdgeRows}
 
 -- Told of any length, so that no list of that length is written out.
 pub empty_is : (n : ℕ) → n ≡ 32770 → NothingYet (set (replicate n 0) 32769 1)

@@ -5,28 +5,25 @@
 --   few_inputs          a gate with a truth word has eight inputs at most
 --   Along               after j clocks of a gate: its slots, and the ring
 --   along_start, along_inputs, along_next    before the first; what it sees is in place; one clock more
---   strides_some, strides_alone    a clock is taken at least, and 32 at most; just one, where the next is not one that 32 divides
+--   strides_alone       just one clock is taken, where the next is not one that 32 divides
 --   row_ahead           in the 32 clocks from one on that 32 divides, row by row
-use Prim.Native.Nat.{ℕ, zero, suc, ◌+◌, ◌-◌, ◌*◌, ◌^◌, ◌/◌, ◌%◌, ◌<◌, ◌≤◌}
+use Prim.Native.Nat.{ℕ, zero, suc, ◌+◌, ◌*◌, ◌^◌, ◌/◌, ◌%◌, ◌<◌, ◌≤◌}
 use native.Mathlib.Omega.{arith}
 use native.Mathlib.Numerals.{add-one}
 use native.Mathlib.Nat.{mul-le-mul_right}
-use native.Mathlib.Decide.{ℕ_discrete, dec_le}
+use native.Mathlib.Decide.{dec_le}
 use mathlib.Core.Path.{◌≡◌, refl, sym, ap, ap₂, subst, ◌∙◌}
 use mathlib.Core.Logic.{inl, inr}
 use mathlib.Core.List.{List, map}
 use lib.Pow.{pow_mono}
-use lib.ListN.{length, take, set, length-set, replicate, length-map}
+use lib.ListN.{length, set, length-set, length-map}
 use Rattle.std.proofs.lemmas.List.{ext_get_or}
-use lib.Seq.{get_or-set_same, get_or-set_other}
 use Rattle.theory.specs.Gate.{gate}
 use Rattle.graph.specs.Columns.{at}
 use Rattle.graph.proofs.Parts.{map_at}
-use Rattle.gates.specs.inner.Gates.{part, AllBits, Narrow, Reckons, InputRows, Evaluable, Truths}
-use Rattle.gates.proofs.Words.{part_at}
-use Rattle.gates.proofs.Row.{bits_set, evaluable_cut, truths_cut, evaluated_cut, cut_length}
+use Rattle.gates.specs.inner.Gates.{part, AllBits, Narrow, Reckons, InputRows}
+use Rattle.gates.proofs.Row.{bits_set}
 use Rattle.netlist.specs.declared.Netlist.{Netlist}
-use Rattle.netlist.proofs.Rows.{zeros_at}
 use Rattle.starts.specs.inner.Ring.{row, edge_slot, EdgeRows, further}
 use Rattle.starts.specs.inner.Ahead.{turned, ahead, all_ahead, Strides}
 use Rattle.starts.proofs.Slots.{edge_turn}
@@ -114,10 +111,6 @@ module _ (truth : ℕ) (sees : List ℕ) (place : ℕ) (ring : List ℕ) (rows :
 -- ── How many clocks ─────────────────────────────────────────────────────────────────────────
 
 module _ {net : Netlist} {list : List ℕ} {s r : ℕ} where
-  pub strides_some : Strides net list s r → (0 < r) × (r ≤ 32)
-  strides_some (inl a) = (omega arith, omega arith)
-  strides_some (inr a) = (omega arith, omega arith)
-
   pub strides_alone : Strides net list s r → 0 < (s + r) % 32 → r ≡ 1
   strides_alone (inl a) z = a
   strides_alone (inr a) z = absurd (let y : ⊥ = omega (arith, a.0, a.2) in y)

@@ -1,27 +1,14 @@
 -- `all_next` is a turn.
-use Rattle.std.proofs.Common.{◌≡◌, ◌+◌, suc, refl, sym, subst, length, arith, add-one, rules, ◌∙◌}
+use Rattle.std.proofs.Common.{◌≡◌, suc, refl, length, arith, rules}
 use Rattle.graph.specs.Columns.{at}
 use Rattle.gates.proofs.Words.{part_length}
-use Rattle.gates.proofs.Row.{placed_seen}
-use Rattle.starts.specs.inner.Ahead.{ahead, all_ahead}
+use Rattle.starts.specs.inner.Ahead.{all_ahead}
 use Rattle.starts.proofs.Turned.{all_next}
 use Rattle.starts.proofs.ahead.evaluate_ahead.Goals as goal
 
 pub loop-node-init : goal.loop-node-init
 unfolding all_ahead
 loop-node-init c = (refl, c.requires.bits, λ kind t. refl)
-
-pub gate_ahead-requires : goal.gate_ahead-requires
-gate_ahead-requires c =
-    let a = c.args in
-    let g = a.gates in
-    let l = c.loop-node in
-    let p = c.requires.placed l.node-index (omega arith) in
-    let rows : length a.ring.now ≡ 32770 = search rules in (
-      rw (c.sees.ensures, ← add-one) (placed_seen g.truth.now g.first.now g.list.now (a.base + 15872) a.ring.now l.ring (at g.node.now l.node-index) p l.invariant.0 l.invariant.1),
-      l.invariant.1,
-      omega (arith, p.in_size),
-    )
 
 pub loop-node-preserved : goal.loop-node-preserved
 loop-node-preserved c =

@@ -1,41 +1,18 @@
 -- The edges are sorted, the nodes are in order, and `following_next` is a turn.
-use Rattle.std.proofs.Common.{◌≡◌, ◌<◌, ◌≤◌, length, replicate, arith, rules}
+use Rattle.std.proofs.Common.{◌≡◌, length, rules}
 use Rattle.theory.specs.Walk.{Loop}
 use Rattle.graph.specs.Columns.{at, column_graph}
-use Rattle.graph.specs.inner.Sort.{Sorts, Ordered}
+use Rattle.graph.specs.inner.Sort.{Ordered}
 use Rattle.graph.proofs.Laws.{loop_kinds}
 use Rattle.netlist.proofs.Wiring.{of_wires}
-use Rattle.moves.proofs.Labels.{low_nodes, low_edges}
-use Rattle.starts.proofs.Listed.{listed_start, listed_below}
-use Rattle.starts.proofs.Turned.{strides_some}
-use Rattle.starts.proofs.Followed.{following_start, following_nodes, following_takes, following_truths, following_next}
+use Rattle.starts.proofs.Followed.{following_start, following_takes, following_truths, following_next}
 use Rattle.starts.proofs.ring.follow.Goals as goal
-
-pub invariant_of-wiring : goal.invariant_of-wiring
-invariant_of-wiring c =
-    let m = c.args.from in
-    record {
-      few_nodes = low_nodes m.net.now m.lab.now m.labelled;
-      few_edges = low_edges m.net.now m.lab.now m.labelled;
-      steppable = m.steppable;
-      entering = of_wires c.wires-wires.ensures (λ n m from to. Sorts to m n (replicate 1024 0) c.entering.result.list c.entering.result.begin) c.entering.ensures;
-    }
 
 pub evaluation_order-order-requires-clause-by_index : goal.evaluation_order-order-requires-clause-by_index
 evaluation_order-order-requires-clause-by_index c =
     let net = c.args.from.net.now in
     λ kind l. c.args.from.steppable.no_loop (loop_kinds net.nodes net.edges kind net.kind net.from net.to (at net.count)
     (of_wires c.wires-wires.ensures (λ n m from to. Loop (column_graph n m kind from to) (at net.count)) l))
-
-pub asked-list-requires : goal.asked-list-requires
-asked-list-requires c =
-    let m = c.args.from in
-    let net = m.net.now in
-    let order = c.evaluation_order-order.result in
-    let rows : length order ≡ 512 = search rules in
-    let low = low_nodes net m.lab.now m.labelled in
-    let all = listed_start net m.lab.now order (omega (arith, low)) (of_wires c.wires-wires.ensures (λ n m from to. Ordered n m from to net.count order) c.evaluation_order-order.ensures) in
-    (omega (arith, all.few, low), omega arith, listed_below all (length m.lab.now) m.labelled.rows)
 
 pub loop-s-init : goal.loop-s-init
 loop-s-init c =
@@ -47,17 +24,8 @@ loop-s-init c =
     following_start _ m.lab.now _ (record { labelled = m.labelled; rows = (search rules, search rules, search rules); truths = c.truths_of-truth.ensures }) order _ _ _ order_rows ring_rows
     c.empty-ring.ensures (of_wires c.wires-wires.ensures (λ n m from to. Ordered n m from to net.count order) c.evaluation_order-order.ensures) c.asked-list.ensures
 
-pub turn-requires-clause-nodes : goal.turn-requires-clause-nodes
-turn-requires-clause-nodes c = rw c.as_slice-nodes.ensures (following_nodes _ _ _ _ _ _ _ c.loop-s.invariant c.args.from.net.now.nodes (omega arith))
-
 pub turn-requires-clause-before : goal.turn-requires-clause-before
 turn-requires-clause-before c = rw c.as_slice-nodes.ensures c.loop-s.invariant.turned
-
-pub stride-k-requires : goal.stride-k-requires
-stride-k-requires c =
-    let m = c.args.from in
-    let f = c.loop-s.invariant in
-    rw c.as_slice-nodes.ensures (omega (arith, f.listed.few, low_nodes m.net.now m.lab.now m.labelled), following_nodes _ _ _ _ _ _ _ f m.net.now.nodes (omega arith))
 
 pub take-requires-clause-one : goal.take-requires-clause-one
 take-requires-clause-one c =
@@ -72,12 +40,6 @@ take-requires-clause-many c =
     let f = rw (← c.as_slice-nodes.ensures) at l.invariant in
     let rows : length c.turn.new.slots ≡ 1024 = search rules in
     (following_takes _ _ _ _ _ _ _ f _ rows c.turn.ensures _ c.stride-k.ensures).1
-
-pub refresh-requires : goal.refresh-requires
-refresh-requires c =
-    let m = c.args.from in
-    let f = c.loop-s.invariant in
-    (omega (arith, f.listed.few, low_nodes m.net.now m.lab.now m.labelled), omega (arith, c.requires.0, c.loop-s-test.true, (strides_some c.stride-k.ensures).1), following_nodes _ _ _ _ _ _ _ f (length m.lab.now) m.labelled.rows)
 
 pub loop-s-preserved : goal.loop-s-preserved
 loop-s-preserved c =

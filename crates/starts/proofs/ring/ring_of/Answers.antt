@@ -15,8 +15,3 @@ returns-then-clocks-eq0 c =
     let rows : length c.empty.result ≡ 32770 = search rules in
     held_end m.net.now m.lab.now 0 c.empty.result (λ v h. omega (arith, cut m.lab.now m.net.now.nodes c.clocks_asked-clocks.result m.labelled.rows c.clocks_asked-clocks.ensures.1 v h, c.if-clocks-eq0.true))
     (held_start m.net.now m.lab.now c.empty.result rows c.empty.ensures)
-
-pub follow-requires : goal.follow-requires
-follow-requires c =
-    let m = c.args.from in
-    (c.clocks_asked-clocks.ensures.0, cut m.lab.now m.net.now.nodes c.clocks_asked-clocks.result m.labelled.rows c.clocks_asked-clocks.ensures.1)

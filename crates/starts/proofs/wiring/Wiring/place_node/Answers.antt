@@ -4,7 +4,7 @@ use mathlib.Core.Path.{ap₂}
 use Rattle.graph.specs.Columns.{at}
 use Rattle.starts.specs.inner.Ring.{slot_of, edge_slot}
 use Rattle.starts.proofs.Slots.{slot_in, puts_more}
-use Rattle.starts.proofs.Wired.{wired, shown_rows, node_edge}
+use Rattle.starts.proofs.Wired.{shown_rows, node_edge}
 use Rattle.starts.proofs.wiring.Wiring.place_node.Goals as goal
 
 pub of-requires : goal.of-requires

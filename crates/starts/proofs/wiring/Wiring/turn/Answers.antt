@@ -1,6 +1,6 @@
 -- `starts::wiring::Wiring::turn` meets its contract: past the start values, a row further is the next clock.
 use Rattle.std.proofs.Common.{◌≡◌, ◌+◌, ◌-◌, ◌<◌, ◌≤◌, length, take, ap, ◌∙◌, arith}
-use Rattle.std.proofs.lemmas.List.{get_or_append_left, length-take-le, get_or-take, get_or_default}
+use Rattle.std.proofs.lemmas.List.{get_or_append_left, length-take-le, get_or-take}
 use Rattle.graph.specs.Columns.{at}
 use Rattle.starts.specs.inner.Ring.{further}
 use Rattle.starts.proofs.Slots.{edge_turn}
