@@ -63,7 +63,7 @@ impl Shown {
 
 impl<'a> Wiring<'a> {
     // The slots of clock s, for the edges that enter node v.
-    // Kept: the places of these edges are gone through, and not the edges themselves, as the slot of each stands at its place.
+    // Kept: a range of places and not `ins.of(v)`, which gives the edges without their places: the slot of each stands at its place.
     fn place_node(&self, v: usize, s: usize, slots: &mut [u16; EDGES])
         requires { v < self.now.net.now.nodes }
         ensures { NodeSlots self.now v s slots.old slots.new }
