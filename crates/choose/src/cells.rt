@@ -1,6 +1,6 @@
 // The program of a moved netlist: a cell for each node of positive lag and each clock below its lag.
 // Private to the crate: `choose` puts them together.
-ghost use Rattle.std.specs.Prelude.{◌≡◌, ℕ, ◌+◌, ◌/◌, ◌≤◌, ◌<◌, length, slice_set};
+ghost use Rattle.std.specs.Prelude.{◌≡◌, ℕ, ◌+◌, ◌≤◌, ◌<◌, length, slice_set};
 ghost use Rattle.graph.specs.Columns.{at};
 ghost use Rattle.graph.specs.inner.Lists.{Appended};
 ghost use Rattle.graph.specs.inner.Sort.{Ordered};
@@ -10,7 +10,7 @@ ghost use Rattle.choose.specs.inner.Wires.{Placed, Wires};
 
 use crate::task::Task;
 use crate::{CODES, STRIDE};
-use graph::{EdgesByNode, Items, NODES, column, evaluation_order};
+use graph::{EdgesByNode, Items, NODES, evaluation_order};
 use lags::up_of;
 use moves::bytes_of;
 use search::{BITS, CELLS, Columns, FIRSTS, OPERANDS};
@@ -62,15 +62,6 @@ impl Numbering {
     }
 }
 
-// The kinds of the cells: those of their nodes.
-pub fn kinds_of(kind: &[u8], code: &[u16]) -> [u8; CELLS]
-    requires few { length code.now ≤ 12288 }
-    requires by_index { (i : ℕ) → i < length code.now → at code.now i / 32 < length kind.now }
-    ensures { (i : ℕ) → i < length code.now → at result i ≡ at kind.now (at code.now i / 32) }
-{
-    column(code.len(), 0, |i| kind[code[i] as usize / STRIDE])
-}
-
 // What edge e shows at clock t: while t is below the new count a chosen value, then a cell of its source.
 #[tactic(auto, using(crate::proofs::Sources::source_chosen, crate::proofs::Sources::source_cell, moves::proofs::Labels::from_node, moves::proofs::Labels::low_edge, moves::proofs::Labels::low_nodes), unfolding(crate::specs::inner::Sources::source_at))]
 fn source_of(task: &Task<'_>, id: &[u16; CODES], e: usize, t: u32) -> u16
@@ -114,20 +105,22 @@ fn put_operands(
     to.first[i + 1] = (start + cell.sees.len()) as u16;
 }
 
-// The operands of all cells, one cell after the other: those of a cell are the edges that enter its node, in the order of the edges.
+// All cells, one after the other: the kind of a cell is that of its node, and its operands are the edges that enter this, in the order of the edges.
 pub fn wire(task: &Task<'_>, of: &Numbering, to: &mut Columns<CELLS, FIRSTS, OPERANDS>)
     requires { Placed task.now.of.net.now task.now.of.lab.now task.now.counts.now task.now.clocks of.now.id of.now.code }
-    ensures wires { Wires task.now.of.net.now task.now.counts.now task.now.base.now of.now.id of.now.code to.new.first to.new.operand }
-    ensures kind { to.new.kind ≡ to.old.kind }
+    ensures { Wires task.now.of.net.now task.now.counts.now task.now.base.now of.now.id of.now.code to.new.kind to.new.first to.new.operand }
 {
-    let ins = task.of.net.wires().entering();
+    let net = task.of.net;
+    let ins = net.wires().entering();
     to.first[0] = 0;
     for (i, code) in of.code.as_slice().iter().enumerate() {
         let code = *code as usize;
+        let node = code / STRIDE;
         let cell = Cell {
             clock: (code % STRIDE) as u32,
-            sees: ins.of(code / STRIDE),
+            sees: ins.of(node),
         };
+        to.kind[i] = net.kind[node];
         put_operands(task, &of.id, i, cell, to);
     }
 }

@@ -7,7 +7,7 @@ ghost use Rattle.choose.specs.inner.Numbers.{LagsBelow};
 ghost use Rattle.choose.specs.inner.Wires.{Chooses, Standing};
 ghost use Rattle.choose.specs.inner.Chosen.{Chosen};
 
-use crate::cells::{Numbering, kinds_of, order_of, wire};
+use crate::cells::{Numbering, order_of, wire};
 use crate::dues::Rows;
 use crate::task::Task;
 use crate::words::Choice;
@@ -18,16 +18,16 @@ use search::{CELLS, Columns, FIRSTS, OPERANDS};
 use solve::solve;
 
 // The program of the moved netlist, over as many bits as are chosen, and what is due of its cells. How many cells there are.
+// Kept: columns are lent to be filled, and not handed out, which copies them: tried with the 57 KB of `Numbering` alone, "search 24 values, conflict on the
+// first 4" takes 5 µs more of 32, past its bar.
 fn compile(task: &Task<'_>, to: &mut Columns<CELLS, FIRSTS, OPERANDS>, rows: &mut Rows) -> usize
     requires { (rows.old.due ≡ []) × (rows.old.begin ≡ 0 ∷ []) }
     ensures { Standing task.now.of.net.now (lags_of task.now.of.lab.now) task.now.k result to.new.kind to.new.first to.new.operand rows.new.due rows.new.begin }
 {
-    let net = task.of.net;
     let order = order_of(task);
-    let order = &order[..net.nodes as usize];
+    let order = &order[..task.of.net.nodes as usize];
     let mut numbers = Numbering::new();
     numbers.number_cells(task, order);
-    to.kind = kinds_of(&net.kind, numbers.code.as_slice());
     wire(task, &numbers, to);
     rows.put(task, order, &numbers.id);
     numbers.code.len()

@@ -1,4 +1,4 @@
-// What the moved netlist's cells must give: the old start values that it has to carry. A due is a number, 2 i + x: cell i must give x.
+// What the moved netlist's cells must give: the old start values that it has to carry. A due is a number, 2 i + x, as in search: cell i must give x.
 // Private to the crate: `choose` puts them together.
 ghost use Rattle.std.specs.Prelude.{◌≡◌, [], ◌∷◌, ℕ, ◌+◌, ◌-◌, ◌≤◌, ◌<◌, min, length};
 ghost use Rattle.graph.specs.Columns.{at};
@@ -36,7 +36,7 @@ struct Leaving {
 }
 
 impl Leaving {
-    // Edge e.
+    // Edge e of the netlist.
     #[tactic(auto, using(moves::proofs::Labels::from_node, moves::proofs::Labels::low_edge, moves::proofs::Labels::low_nodes, netlist::proofs::Lowest::count_low))]
     fn of(task: &Task<'_>, e: usize) -> Self
         requires { e < task.now.of.net.now.edges }
@@ -131,7 +131,7 @@ impl Rows {
         let along = edges_along(&wires.from[..wires.edges], order);
         let along = &along[..wires.edges];
         let mut low = 0;
-        // Kept: no index is counted, a run ends past twice its beginning.
+        // Kept: no range, as a run begins where the one before it ends, and ends past twice its beginning.
         while low < task.clocks {
             let high = (2 * low + 1).min(MOST_CHOSEN);
             self.put_run(task, along, id, Run { low, high });

@@ -1,9 +1,10 @@
 -- The cells put together.
 --   Placed              the cells are numbered along an evaluation order of the moved netlist
---   Wires               the operands stand, by the edges that enter each node
+--   Wires               the cells stand: their kinds, and their operands, by the edges that enter each node
 --   Chooses             the search's answer: the best choice that carries the start, or that none does
 --   Standing            a right program, whose cells give what is due exactly where the choice carries the start
-use Rattle.std.specs.Prelude.{◌≡◌, Option, Some, None, ◌↔◌, List, ℕ, ℤ, length, take, replicate}
+use Rattle.std.specs.Prelude.{◌≡◌, Option, Some, None, ◌↔◌, List, ℕ, ◌/◌, ◌<◌, ℤ, length, take, replicate}
+use Rattle.graph.specs.Columns.{at}
 use Rattle.graph.specs.inner.Sort.{Sorts, Ordered}
 use Rattle.netlist.specs.declared.Netlist.{Netlist}
 use Rattle.netlist.specs.Circuit.{BestAt, StartlessAt, choice_at}
@@ -18,9 +19,10 @@ pub record Placed (net : Netlist) (lab counts : List ℕ) (clocks : ℕ) (id cod
   pub ordered : Ordered net.nodes net.edges net.from net.to counts order
   pub numbered : CellsNumbered (lag_at lab) order clocks 0 id code
 
-pub record Wires (net : Netlist) (counts base id code first operand : List ℕ) : Type 0 where
+pub record Wires (net : Netlist) (counts base id code kind first operand : List ℕ) : Type 0 where
   pub ins : List ℕ
   pub begin : List ℕ
+  pub kinds : (i : ℕ) → i < length code → at kind i ≡ at net.kind (at code i / 32)
   pub entering : Sorts net.to net.edges net.nodes (replicate 1024 0) ins begin
   pub operands : Operands net.from ins begin counts base id code (length code) first operand
 

@@ -1,4 +1,4 @@
--- `choose::cells::wire` meets its contract: the operands of the cell at hand are put.
+-- `choose::cells::wire` meets its contract: the cell at hand is put.
 use Rattle.std.proofs.Common.{◌≡◌, ℕ, ◌+◌, ◌/◌, ◌%◌, ◌≤◌, ◌<◌, List, length, replicate, rules, arith, refl, sym, subst, ap, ◌∙◌, get_or-set_same}
 use lib.ListN.{set}
 use Rattle.std.specs.Prelude.{slice_range}
@@ -9,16 +9,18 @@ use Rattle.graph.specs.inner.Sort.{Sorts}
 use Rattle.graph.specs.declared.wires.Wires.{Wires}
 use Rattle.graph.specs.declared.by_node.EdgesByNode.{EdgesByNode}
 use Rattle.graph.specs.inner.Lists.{Appended}
+use Rattle.graph.proofs.Fills.{fill_more}
 use Rattle.graph.proofs.Parts.{range_at, range_length}
 use Rattle.netlist.specs.declared.Netlist.{Netlist}
 use Rattle.netlist.specs.inner.Wiring.{WiresOf}
 use Rattle.netlist.proofs.Wiring.{of_wires}
 use Rattle.moves.specs.inner.Labels.{Labelled}
+use Rattle.moves.proofs.Labels.{low_nodes}
 use Rattle.choose.specs.inner.Task.{Known}
 use Rattle.choose.specs.inner.Sources.{source_at, SourceRows, width_at, OperandRows, Operands}
 use Rattle.choose.specs.inner.Wires.{Placed}
 use Rattle.choose.proofs.Sources.{operands_none, operands_more}
-use Rattle.choose.proofs.Right.{few_cells, rows, few_places}
+use Rattle.choose.proofs.Right.{few_cells, node_low, rows, few_places}
 use Rattle.choose.proofs.cells.wire.Goals as goal
 
 -- The edges by the node that they enter, of the record.
@@ -54,7 +56,11 @@ seen_of {net = net} {counts = counts} {base = base} {id = id} {code = code} s m 
     them : (k : ℕ) → k < length seen → at seen k ≡ at ins (at begin (at code i / 32) + k)
     them k l = ap (λ s. at s k) is ∙ range_at ins (at begin (at code i / 32)) (at begin (at code i / 32 + 1)) k (omega (arith, wide))
 
--- The same of what the code reads: `codes` are the codes.
+-- What the code reads: `codes` are the codes.
+node_at : {net : Netlist} {lab counts base id code codes : List ℕ} {k clocks i : ℕ} → Labelled net lab → Known net lab counts base k clocks → Placed net lab counts clocks id code
+    → codes ≡ code → i < length codes → at codes i / 32 < 512
+node_at s m p e h = rw e (omega (arith, node_low s m p _ (rw e at h), low_nodes _ _ s))
+
 seen_at : {net : Netlist} {lab counts base id code codes seen : List ℕ} {k clocks i : ℕ} {w : Wires} → Labelled net lab → Known net lab counts base k clocks → Placed net lab counts clocks id code
     → WiresOf net w → (ins : EdgesByNode) → Sorts w.to.now w.edges w.nodes (replicate 1024 0) ins.list ins.begin → length ins.list ≡ 1024
     → codes ≡ code → i < length codes → seen ≡ slice_range ins.list (at ins.begin (at codes i / 32)) (at ins.begin (at codes i / 32 + 1)) → Seen net counts base id ins.list ins.begin codes seen i
@@ -63,13 +69,13 @@ seen_at {net = net} {counts = counts} {base = base} {id = id} {seen = seen} {i =
     (sym e) (seen_of s m p ins.list ins.begin seen (entering w g) many ins.within i)
 
 pub loop-i-init : goal.loop-i-init
-loop-i-init c = (refl, operands_none _ _ _ _ _ _ _ _ _ (get_or-set_same c.args.to.now.first 0 0 0 (omega (arith, c.args.to.now.first_rows))))
+loop-i-init c = (λ j h. absurd (let z : ⊥ = omega arith in z), operands_none _ _ _ _ _ _ _ _ _ (get_or-set_same c.args.to.now.first 0 0 0 (omega (arith, c.args.to.now.first_rows))))
 
 pub of-requires : goal.of-requires
-of-requires c =
-    let task = c.args.task.now in
-    let codes = c.as_slice-code-items.ensures in
-    rw codes (rows task.of.labelled task.known c.requires (entering c.wires.ensures c.entering-ins.ensures) c.loop-i.i (rw codes at c.loop-i-test.true)).row
+of-requires c = let task = c.args.task.now in node_at task.of.labelled task.known c.requires c.as_slice-code-items.ensures c.loop-i-test.true
+
+pub bounds-net-node : goal.bounds-net-node
+bounds-net-node c = let task = c.args.task.now in node_at task.of.labelled task.known c.requires c.as_slice-code-items.ensures c.loop-i-test.true
 
 pub put_operands-requires-clause-room : goal.put_operands-requires-clause-room
 put_operands-requires-clause-room c =
@@ -95,4 +101,6 @@ loop-i-preserved c =
     let seen = seen_at task.of.labelled task.known c.requires c.wires.ensures c.entering-ins.result c.entering-ins.ensures (search rules) codes c.loop-i-test.true c.of.ensures in
     let few = few_cells task.of.labelled task.known c.requires in
     let next = seen.more l.to.first l.to.operand _ (omega (arith, l.to.first_rows, few, ap length codes)) (rw (sym codes) at l.invariant.1) d.operands in
-    (d.kind ∙ l.invariant.0, rw d.first (rw codes at next))
+    let kind = task.of.net.now.kind in
+    let kinds = fill_more (λ j. at kind (at c.args.of.now.code j / 32)) l.to.kind l.i _ (omega (arith, l.to.kind_rows, few, ap length codes)) (ap (λ x. at kind (at x l.i / 32)) codes) l.invariant.0 in
+    (rw d.kind kinds, rw d.first (rw codes at next))

@@ -8,7 +8,7 @@ use Rattle.moves.proofs.Labels.{low_nodes}
 use Rattle.choose.specs.inner.Numbers.{lag_at, CellsNumbered}
 use Rattle.choose.specs.inner.Wires.{Placed}
 use Rattle.choose.proofs.Orders.{ordered_cut}
-use Rattle.choose.proofs.Right.{arranged, okay_all, node_low, standing}
+use Rattle.choose.proofs.Right.{arranged, okay_all, standing}
 use Rattle.choose.proofs.choosing.compile.Goals as goal
 
 -- The nodes of the order, cut out of its column.
@@ -31,13 +31,6 @@ number_cells-requires-clause-arranged c =
     let w = whole c.order_of-order.result task.of.labelled (search rules) in
     (arranged task.of.labelled task.known w (ordered_cut _ _ _ _ _ _ c.order_of-order.ensures), w)
 
-pub kinds_of-to-requires-clause-by_index : goal.kinds_of-to-requires-clause-by_index
-kinds_of-to-requires-clause-by_index c =
-    let task = c.args.task.now in
-    let s = task.of.labelled in
-    let p = placed c.order_of-order.result s (search rules) c.order_of-order.ensures c.number_cells.ensures in
-    rw c.as_slice.ensures (λ i h. omega (arith, low_nodes _ _ s, node_low s task.known p i h))
-
 pub wire-requires : goal.wire-requires
 wire-requires c = placed c.order_of-order.result c.args.task.now.of.labelled (search rules) c.order_of-order.ensures c.number_cells.ensures
 
@@ -55,8 +48,7 @@ put-requires-clause-celled c =
 pub returns : goal.returns
 returns c =
     let task = c.args.task.now in
-    let w = c.wire.ensures.wires in
+    let w = c.wire.ensures in
     let to = c.wire.new.to in
     let p = placed c.order_of-order.result task.of.labelled (search rules) c.order_of-order.ensures c.number_cells.ensures in
-    let kinds = rw (c.as_slice.ensures, sym c.wire.ensures.kind) at c.kinds_of-to.ensures in
-    rw c.len.ensures (standing task.of.labelled task.known p w.entering w.operands c.put.ensures.owes c.put.ensures.dues to.first_rows to.operand_rows task.of.steppable to.kind to.kind_rows kinds)
+    rw c.len.ensures (standing task.of.labelled task.known p w.entering w.operands c.put.ensures.owes c.put.ensures.dues to.first_rows to.operand_rows task.of.steppable to.kind to.kind_rows w.kinds)
