@@ -2,7 +2,7 @@
 --   Halving             no period up to low is met, and the labels are those of the least retiming at high
 --   halving_start       it begins where 65,535 is met
 --   halving_missed      a period between them that is not met takes the place of the lower
-use Prim.Native.Nat.{ℕ, ◌+◌, ◌<◌, ◌≤◌}
+use Prim.Native.Nat.{ℕ, ◌<◌, ◌≤◌}
 use native.Mathlib.Omega.{arith}
 use mathlib.Core.Path.{◌≡◌}
 use mathlib.Core.List.{List}
@@ -10,10 +10,8 @@ use lib.ListN.{length}
 use Rattle.graph.specs.Columns.{at}
 use Rattle.netlist.specs.declared.Netlist.{Netlist}
 use Rattle.netlist.specs.Circuit.{LeastIn, NoneMeetsIn}
-use Rattle.netlist.proofs.Run.{fit_rows}
-use Rattle.lags.specs.inner.Lags.{Sure, Least}
+use Rattle.lags.specs.inner.Lags.{Least}
 use Rattle.moves.specs.inner.Labels.{lags_of}
-use Rattle.quote.specs.inner.Quoted.{Tightest}
 use Rattle.quote.proofs.theorems.Period.{longer_forbids_less}
 
 pub record Halving (net : Netlist) (low high : ℕ) (lab : List ℕ) : Type 0 where
