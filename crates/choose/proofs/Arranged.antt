@@ -1,9 +1,11 @@
 -- An order that has each node has it once.
 --   ordered_arranged    an evaluation order has each node once
-use Prim.Native.Nat.{ℕ, ◌≤◌, ◌<◌}
+--   every_node          and as it has no more places than nodes, it has every node
+use Prim.Native.Nat.{ℕ, zero, suc, ◌≤◌, ◌<◌}
 use native.Mathlib.Omega.{arith}
 use native.Mathlib.Decide.{ℕ_discrete, dec_lt}
 use mathlib.Core.Path.{◌≡◌, refl, sym, subst, ap, ◌∙◌}
+use mathlib.Core.Logic.{◌⊎◌, inl, inr, ⊎_elim}
 use mathlib.Core.List.{List}
 use lib.ListN.{length}
 use Rattle.theory.proofs.numbers.Pigeon.{no_injection}
@@ -77,6 +79,48 @@ pub ordered_arranged : (edges : ℕ) (from to count order : List ℕ) → length
 ordered_arranged edges from to count order few s = record {
   few = few;
   nodes_only = s.nodes_only;
-  every_node = s.every_node;
   once = λ p q h l. place_once order (length order) s.every_node p q h l (s.nodes_only q l);
 }
+
+-- A place of a node, or that none of the first n places has it: one place further, and of all.
+stands_more : (order : List ℕ) (v n : ℕ) → Dec (at order n ≡ v) → Stands order n v ⊎ ((p : ℕ) → p < n → ¬ (at order p ≡ v))
+    → Stands order (suc n) v ⊎ ((p : ℕ) → p < suc n → ¬ (at order p ≡ v))
+stands_more order v n (yes z) s = inl (record { place = n; within = omega arith; holds = z })
+stands_more order v n (no z) s =
+    ⊎_elim
+    (λ (o : Stands order n v). inl (record { place = o.place; within = omega (arith, o.within); holds = o.holds }))
+    (λ (k : (p : ℕ) → p < n → ¬ (at order p ≡ v)). inr (λ p h. last k p h (ℕ_discrete p n)))
+    s
+  where
+    last : ((p : ℕ) → p < n → ¬ (at order p ≡ v)) → (p : ℕ) → p < suc n → Dec (p ≡ n) → ¬ (at order p ≡ v)
+    last k p h (yes e) = subst (λ q. ¬ (at order q ≡ v)) (sym e) z
+    last k p h (no e) = k p (omega arith)
+
+stands_or : (order : List ℕ) (v n : ℕ) → Stands order n v ⊎ ((p : ℕ) → p < n → ¬ (at order p ≡ v))
+stands_or order v zero = inr (λ p h. absurd (let z : ⊥ = omega arith in z))
+stands_or order v (suc n) = stands_more order v n (ℕ_discrete (at order n) v) (stands_or order v n)
+
+-- A node without a place would be one node more than there are, each with a number below their count.
+module _ (order : List ℕ) (o : Arranged order) (v : ℕ) (h : v < length order) where
+  numbers : (p : ℕ) → Dec (p ≡ length order) → ℕ
+  numbers p (yes _) = v
+  numbers p (no _) = at order p
+
+  none_left : ((p : ℕ) → p < length order → ¬ (at order p ≡ v)) → ⊥
+  unfolding numbers
+  none_left other =
+      no_injection (length order) (λ p. numbers p (ℕ_discrete p (length order)))
+      (λ p l. low p l (ℕ_discrete p (length order)))
+      (λ p q l m. two p q l m (ℕ_discrete p (length order)) (ℕ_discrete q (length order)))
+    where
+      low : (p : ℕ) → p ≤ length order → (d : Dec (p ≡ length order)) → numbers p d < length order
+      low p l (yes z) = h
+      low p l (no z) = o.nodes_only p (omega arith)
+
+      two : (p q : ℕ) → p < q → q ≤ length order → (d : Dec (p ≡ length order)) (e : Dec (q ≡ length order)) → ¬ (numbers p d ≡ numbers q e)
+      two p q l m (yes z) e = absurd (let y : ⊥ = omega arith in y)
+      two p q l m (no z) (yes w) = other p (omega arith)
+      two p q l m (no z) (no w) = o.once p q l (omega arith)
+
+  pub every_node : Stands order (length order) v
+  every_node = ⊎_elim (λ (s : Stands order (length order) v). s) (λ (k : (p : ℕ) → p < length order → ¬ (at order p ≡ v)). absurd (none_left k)) (stands_or order v (length order))

@@ -17,6 +17,7 @@ use Rattle.lags.specs.inner.Lags.{lag_of}
 use Rattle.graph.specs.Columns.{at}
 use Rattle.graph.specs.inner.Sort.{Stands}
 use Rattle.choose.specs.inner.Numbers.{lag_at, LagsBelow, Arranged, EarlierCell, CellNumbered, CellsNumbered}
+use Rattle.choose.proofs.Arranged.{every_node}
 
 lag_cut : (lab : List ℕ) (nodes v : ℕ) → v < nodes → lag_at (take nodes lab) v ≡ lag_at lab v
 lag_cut lab nodes v l = ap (λ x. up (lag_of x)) (get_or-take nodes lab v 0 l)
@@ -190,5 +191,5 @@ module _ (lag : ℕ → ℕ) (order : List ℕ) where
   }
     where
       go : (v k : ℕ) → v < length order → k < t + 1 → Dec (k ≡ t) → EarlierCell order t (length order) v k
-      go v k hv l (yes e) = inr (e, o.every_node v hv)
+      go v k hv l (yes e) = inr (e, every_node order o v hv)
       go v k hv l (no e) = inl (let z : k < t = omega arith in z)

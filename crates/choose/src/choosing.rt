@@ -7,7 +7,7 @@ ghost use Rattle.choose.specs.inner.Numbers.{LagsBelow};
 ghost use Rattle.choose.specs.inner.Wires.{Chooses, Standing};
 ghost use Rattle.choose.specs.inner.Chosen.{Chosen};
 
-use crate::cells::{Numbering, order_of, wire};
+use crate::cells::{Numbering, order_of};
 use crate::dues::Rows;
 use crate::task::Task;
 use crate::words::Choice;
@@ -25,12 +25,11 @@ fn compile(task: &Task<'_>, to: &mut Columns<CELLS, FIRSTS, OPERANDS>, rows: &mu
     ensures { Standing task.now.of.net.now (lags_of task.now.of.lab.now) task.now.k result to.new.kind to.new.first to.new.operand rows.new.due rows.new.begin }
 {
     let order = order_of(task);
-    let order = &order[..task.of.net.nodes as usize];
-    let mut numbers = Numbering::new();
-    numbers.number_cells(task, order);
-    wire(task, &numbers, to);
-    rows.put(task, order, &numbers.id);
-    numbers.code.len()
+    let mut cells = Numbering::new(task, &order[..task.of.net.nodes as usize]);
+    cells.number_cells();
+    cells.wire(to);
+    rows.put(&cells);
+    cells.code.len()
 }
 
 // The best choice that carries the start, or that none does.

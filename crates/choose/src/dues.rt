@@ -1,4 +1,4 @@
-// What the moved netlist's cells must give: the old start values that it has to carry. A due is a number, 2 i + x, as in search: cell i must give x.
+// What the moved netlist's cells must give: the old start values that it has to carry. A due is a number, 2 i + x, as in search `Owed`: cell i must give x.
 // Private to the crate: `choose` puts them together.
 ghost use Rattle.std.specs.Prelude.{◌≡◌, [], ◌∷◌, ℕ, ◌+◌, ◌-◌, ◌≤◌, ◌<◌, min, length};
 ghost use Rattle.graph.specs.Columns.{at};
@@ -7,6 +7,7 @@ ghost use Rattle.search.specs.inner.Program.{rows_of, total_of, Owes};
 ghost use Rattle.choose.specs.inner.Numbers.{lag_at};
 ghost use Rattle.choose.specs.inner.Dues.{cell_at, Dues, due_at, Celled, Pushed, DuesTo};
 
+use crate::cells::Numbering;
 use crate::task::Task;
 use crate::{CODES, ROW_ENDS, STRIDE};
 use graph::{Items, edges_along};
@@ -100,17 +101,17 @@ impl Rows {
 
     // One run of clocks of every edge: a row for each edge that has something due in it, put after the rows that are there.
     // (The search goes through all rows once for each level, so a row with nothing in it would cost.)
-    fn put_run(&mut self, task: &Task<'_>, along: &[u16], id: &[u16; CODES], run: Run)
-        requires along { EachEdge along.now (length along.now) × (length along.now ≡ task.now.of.net.now.edges) }
-        requires celled { Celled (lag_at task.now.of.lab.now) task.now.of.net.now.nodes 12288 id.now }
+    fn put_run(&mut self, of: &Numbering<'_>, along: &[u16], run: Run)
+        requires along { EachEdge along.now (length along.now) × (length along.now ≡ of.now.task.now.of.net.now.edges) }
+        requires celled { Celled (lag_at of.now.task.now.of.lab.now) of.now.task.now.of.net.now.nodes 12288 of.now.id }
         requires few_rows { rows_of self.old.begin ≤ 4096 }
-        requires dues_to { DuesTo task.now.of.net.now (lag_at task.now.of.lab.now) id.now along.now run.low run.low 0 self.old.due self.old.begin }
-        ensures upper_bound { rows_of self.new.begin ≤ rows_of self.old.begin + task.now.of.net.now.edges }
-        ensures dues_to_2 { DuesTo task.now.of.net.now (lag_at task.now.of.lab.now) id.now along.now run.high run.high 0 self.new.due self.new.begin }
+        requires dues_to { DuesTo of.now.task.now.of.net.now (lag_at of.now.task.now.of.lab.now) of.now.id along.now run.low run.low 0 self.old.due self.old.begin }
+        ensures upper_bound { rows_of self.new.begin ≤ rows_of self.old.begin + of.now.task.now.of.net.now.edges }
+        ensures dues_to_2 { DuesTo of.now.task.now.of.net.now (lag_at of.now.task.now.of.lab.now) of.now.id along.now run.high run.high 0 self.new.due self.new.begin }
     {
         for e in along {
             let before = self.due.len();
-            append_dues(Leaving::of(task, *e as usize), run, id, &mut self.due);
+            append_dues(Leaving::of(of.task, *e as usize), run, &of.id, &mut self.due);
             let after = self.due.len();
             if before < after {
                 self.begin.push(after as u16);
@@ -120,21 +121,21 @@ impl Rows {
 
     // All that is due: an edge's moved clocks in runs of 1, 2, 4, … clocks, the first runs of all edges first, so that an early clock of one edge does not wait for
     // the late ones of another; edges in the evaluation order of the nodes that they leave: the search then looks at a value soon after it is evaluated.
-    pub fn put(&mut self, task: &Task<'_>, order: &[u16], id: &[u16; CODES])
+    pub fn put(&mut self, of: &Numbering<'_>)
         requires none { (self.old.due ≡ []) × (self.old.begin ≡ 0 ∷ []) }
-        requires nodes { (length order.now ≡ task.now.of.net.now.nodes) × ((p : ℕ) → p < length order.now → at order.now p < length order.now) }
-        requires celled { Celled (lag_at task.now.of.lab.now) task.now.of.net.now.nodes 12288 id.now }
+        requires celled { Celled (lag_at of.now.task.now.of.lab.now) of.now.task.now.of.net.now.nodes 12288 of.now.id }
         ensures owes { Owes 12288 self.new.due self.new.begin (rows_of self.new.begin) }
-        ensures dues { Dues task.now.of.net.now (lag_at task.now.of.lab.now) (cell_at id.now) self.new.due (total_of self.new.begin) }
+        ensures dues { Dues of.now.task.now.of.net.now (lag_at of.now.task.now.of.lab.now) (cell_at of.now.id) self.new.due (total_of self.new.begin) }
     {
+        let task = of.task;
         let wires = task.of.net.wires();
-        let along = edges_along(&wires.from[..wires.edges], order);
+        let along = edges_along(&wires.from[..wires.edges], of.order);
         let along = &along[..wires.edges];
         let mut low = 0;
         // Kept: no range, as a run begins where the one before it ends, and ends past twice its beginning.
         while low < task.clocks {
             let high = (2 * low + 1).min(MOST_CHOSEN);
-            self.put_run(task, along, id, Run { low, high });
+            self.put_run(of, along, Run { low, high });
             low = high;
         }
     }

@@ -1,7 +1,7 @@
 -- The cells, numbered clock by clock and within a clock in evaluation order. The cell of node v at clock t has the code 32 v + t.
 --   lag_at              a node's lag where it is positive, else 0
 --   LagsBelow           so many clocks, 24 at most, and no lag of the first nodes is above them
---   Arranged            an order of the nodes, each once
+--   Arranged            an order of the nodes, as many as it has places, each once
 --   EarlierCell         node v at clock s comes before place p of clock t
 --   CellNumbered, CellsNumbered  all cells before place p of clock t are numbered, and no others: `id` has a code's number, `code` a number's code
 use Rattle.std.specs.Prelude.{◌≡◌, ◌⊎◌, List, ℕ, ◌+◌, ◌*◌, ◌<◌, ◌≤◌, length}
@@ -20,7 +20,6 @@ pub record LagsBelow (lab : List ℕ) (nodes clocks : ℕ) : Type 0 where
 pub record Arranged (order : List ℕ) : Type 0 where
   pub few : length order ≤ 512
   pub nodes_only : (p : ℕ) → p < length order → at order p < length order
-  pub every_node : (v : ℕ) → v < length order → Stands order (length order) v
   pub once : (p q : ℕ) → p < q → q < length order → ¬ (at order p ≡ at order q)
 
 abbrev pub EarlierCell : List ℕ → ℕ → ℕ → ℕ → ℕ → Type 0

@@ -22,33 +22,32 @@ module _ {net : Netlist} {lab : List ℕ} (order : List ℕ) (s : Labelled net l
 pub slice_bounds-order-end : goal.slice_bounds-order-end
 slice_bounds-order-end c = let rows : length c.order_of-order.result ≡ 512 = search rules in omega (arith, low_nodes _ _ c.args.task.now.of.labelled)
 
-pub slice_bounds-order-end-2 : goal.slice_bounds-order-end-2
-slice_bounds-order-end-2 c = sym (whole c.order_of-order.result c.args.task.now.of.labelled (search rules))
+pub slice_bounds-new-end : goal.slice_bounds-new-end
+slice_bounds-new-end c = sym (whole c.order_of-order.result c.args.task.now.of.labelled (search rules))
 
-pub number_cells-requires-clause-arranged : goal.number_cells-requires-clause-arranged
-number_cells-requires-clause-arranged c =
+pub new-cells-requires : goal.new-cells-requires
+new-cells-requires c =
     let task = c.args.task.now in
     let w = whole c.order_of-order.result task.of.labelled (search rules) in
     (arranged task.of.labelled task.known w (ordered_cut _ _ _ _ _ _ c.order_of-order.ensures), w)
 
 pub wire-requires : goal.wire-requires
-wire-requires c = placed c.order_of-order.result c.args.task.now.of.labelled (search rules) c.order_of-order.ensures c.number_cells.ensures
-
-pub put-requires-clause-nodes : goal.put-requires-clause-nodes
-put-requires-clause-nodes c =
-    let task = c.args.task.now in
-    let w = whole c.order_of-order.result task.of.labelled (search rules) in
-    (w, (arranged task.of.labelled task.known w (ordered_cut _ _ _ _ _ _ c.order_of-order.ensures)).nodes_only)
+wire-requires c =
+    let of = c.new-cells.ensures.of in
+    rw (c.number_cells.ensures.of.0, of.0) (placed c.order_of-order.result c.args.task.now.of.labelled (search rules) c.order_of-order.ensures (rw (of.0, of.1) at c.number_cells.ensures.numbered))
 
 pub put-requires-clause-celled : goal.put-requires-clause-celled
 put-requires-clause-celled c =
     let task = c.args.task.now in
-    okay_all task.of.labelled task.known (placed c.order_of-order.result task.of.labelled (search rules) c.order_of-order.ensures c.number_cells.ensures)
+    let of = c.new-cells.ensures.of in
+    rw (c.number_cells.ensures.of.0, of.0) (okay_all task.of.labelled task.known (placed c.order_of-order.result task.of.labelled (search rules) c.order_of-order.ensures (rw (of.0, of.1) at c.number_cells.ensures.numbered)))
 
 pub returns : goal.returns
 returns c =
     let task = c.args.task.now in
-    let w = c.wire.ensures in
+    let of = c.new-cells.ensures.of in
+    let w = rw (c.number_cells.ensures.of.0, of.0) at c.wire.ensures in
+    let d = rw (c.number_cells.ensures.of.0, of.0) at c.put.ensures in
     let to = c.wire.new.to in
-    let p = placed c.order_of-order.result task.of.labelled (search rules) c.order_of-order.ensures c.number_cells.ensures in
-    rw c.len.ensures (standing task.of.labelled task.known p w.entering w.operands c.put.ensures.owes c.put.ensures.dues to.first_rows to.operand_rows task.of.steppable to.kind to.kind_rows w.kinds)
+    let p = placed c.order_of-order.result task.of.labelled (search rules) c.order_of-order.ensures (rw (of.0, of.1) at c.number_cells.ensures.numbered) in
+    rw c.len.ensures (standing task.of.labelled task.known p w.entering w.operands d.owes d.dues to.first_rows to.operand_rows task.of.steppable to.kind to.kind_rows w.kinds)

@@ -1,10 +1,17 @@
 -- `choose::cells::Numbering::number_cells` meets its contract: the cells of one clock more are numbered.
-use Rattle.choose.specs.inner.Numbers.{lag_at}
+use Rattle.std.proofs.Common.{refl, ◌∙◌}
 use Rattle.choose.proofs.Numbers.{numbered_none, numbered_clock}
 use Rattle.choose.proofs.cells.Numbering.number_cells.Goals as goal
 
 pub loop-t-init : goal.loop-t-init
-loop-t-init c = numbered_none (lag_at c.args.task.now.of.lab.now) c.args.order.now _ _ c.requires.none.0 c.requires.none.1
+loop-t-init c = (refl, refl, numbered_none _ _ _ _ c.requires.none.0 c.requires.none.1)
 
 pub loop-t-preserved : goal.loop-t-preserved
-loop-t-preserved c = numbered_clock (lag_at c.args.task.now.of.lab.now) c.args.order.now c.loop-t.t _ _ c.requires.arranged.0 c.number_clock.ensures
+loop-t-preserved c =
+    let i = c.loop-t.invariant in
+    let (task, order) = c.number_clock.ensures.of in
+    (
+      task ∙ i.0,
+      order ∙ i.1,
+      numbered_clock _ _ c.loop-t.t _ _ c.args.self.now.arranged (rw (i.0, i.1) at c.number_clock.ensures.numbered),
+    )

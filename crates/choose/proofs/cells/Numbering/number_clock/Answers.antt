@@ -9,17 +9,19 @@ use Rattle.choose.proofs.cells.Numbering.number_clock.Goals.{then-t-up_of, else-
 
 pub loop-v-preserved : goal.loop-v-preserved
 loop-v-preserved c =
-    let a = c.args in
+    let self = c.args.self.now in
     let l = c.loop-v in
-    let task = a.task.now in
+    let task = self.task.now in
     let lag = lag_at task.of.lab.now in
-    let next = λ (to : Numbering). CellsNumbered lag a.order.now a.t (l.v-index + 1) to.id to.code in
+    let order = self.order.now in
+    let (same_task, same_order, before) = l.invariant in
+    let next = λ (to : Numbering). CellsNumbered lag order c.args.t (l.v-index + 1) to.id to.code in
     elim c.if-t-up_of.branch [
       | then-t-up_of w ↦
           rw (w.self-is, w.push.ensures, w.len.ensures)
-          (numbered_hit lag a.order.now a.t l.v-index l.self.id l.self.code l.invariant c.requires.arranged.0
-          (λ v h. low_lag task.of.labelled task.known v (omega (arith, c.requires.arranged.1))) c.loop-v-test.true
-          (subst (λ x. a.t < x) c.up_of.ensures w.if-t-up_of.true))
-      | else-t-up_of w ↦ subst next (sym w.self-is)
-          (numbered_miss lag a.order.now a.t l.v-index l.self.id l.self.code l.invariant (λ k. let z : ⊥ = omega (arith, w.if-t-up_of.false, c.up_of.ensures) in z))
+          (same_task, same_order, numbered_hit lag order c.args.t l.v-index l.self.id l.self.code before self.arranged
+          (λ v h. low_lag task.of.labelled task.known v (omega (arith, self.whole))) c.loop-v-test.true
+          (subst (λ x. c.args.t < x) c.up_of.ensures w.if-t-up_of.true))
+      | else-t-up_of w ↦ rw w.self-is
+          (same_task, same_order, numbered_miss lag order c.args.t l.v-index l.self.id l.self.code before (λ k. let z : ⊥ = omega (arith, w.if-t-up_of.false, c.up_of.ensures) in z))
     ]

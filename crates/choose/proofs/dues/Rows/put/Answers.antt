@@ -36,7 +36,7 @@ module _ {edges n : ℕ} (along : List ℕ) (q : n ≡ edges) (rows : edges ≤ 
   }
 
 pub edges_along-along-requires-clause-edges_bound : goal.edges_along-along-requires-clause-edges_bound
-edges_along-along-requires-clause-edges_bound c = ends c.wires-wires.result (c.requires.nodes.0 ∙ sym c.wires-wires.ensures.nodes)
+edges_along-along-requires-clause-edges_bound c = ends c.wires-wires.result (c.args.of.now.whole ∙ sym c.wires-wires.ensures.nodes)
 
 pub put_run-requires-clause-along : goal.put_run-requires-clause-along
 put_run-requires-clause-along c =
@@ -48,25 +48,25 @@ pub loop-low-preserved : goal.loop-low-preserved
 loop-low-preserved c =
     let l = c.loop-low in
     let r = c.put_run.ensures in
-    let low : l.low < 24 = omega (arith, c.args.task.now.known.low.few) in
+    let low : l.low < 24 = omega (arith, c.args.of.now.task.now.known.low.few) in
     let high = c.min-high.ensures in
-    (omega (arith, low, high), rows_more _ _ _ _ _ low (low_edges _ _ c.args.task.now.of.labelled) high r.upper_bound l.invariant.1, r.dues_to_2)
+    (omega (arith, low, high), rows_more _ _ _ _ _ low (low_edges _ _ c.args.of.now.task.now.of.labelled) high r.upper_bound l.invariant.1, r.dues_to_2)
 
 pub returns-clause-owes : goal.returns-clause-owes
 returns-clause-owes c =
     let a = c.args in
     let l = c.loop-low in
-    owes_all a.task.now.of.net.now (lag_at a.task.now.of.lab.now) a.id.now _ l.self.due l.self.begin l.low l.invariant.2 12288 c.requires.celled (from_node _ _ a.task.now.of.labelled) l.invariant.0
+    owes_all a.of.now.task.now.of.net.now (lag_at a.of.now.task.now.of.lab.now) a.of.now.id _ l.self.due l.self.begin l.low l.invariant.2 12288 c.requires.celled (from_node _ _ a.of.now.task.now.of.labelled) l.invariant.0
 
 pub returns-clause-dues : goal.returns-clause-dues
 returns-clause-dues c =
     let a = c.args in
     let l = c.loop-low in
-    let s = a.task.now.of.labelled in
-    let net = a.task.now.of.net.now in
+    let s = a.of.now.task.now.of.labelled in
+    let net = a.of.now.task.now.of.net.now in
     let w = c.wires-wires in
     let n = length-take-le w.result.edges w.result.from.now w.result.laid.from_rows in
     let all = cut_length c.edges_along-along.result n (search rules) c.edges_along-along.ensures ∙ w.ensures.edges in
-    dues_all net (lag_at a.task.now.of.lab.now) a.id.now _ l.self.due l.self.begin l.low l.invariant.2
+    dues_all net (lag_at a.of.now.task.now.of.lab.now) a.of.now.id _ l.self.due l.self.begin l.low l.invariant.2
     (rw all at (cut c.edges_along-along.result n (search rules) c.edges_along-along.ensures))
-    (λ e h. omega (arith, a.task.now.known.low.low (at net.from e) (from_node _ _ s e h)))
+    (λ e h. omega (arith, a.of.now.task.now.known.low.low (at net.from e) (from_node _ _ s e h)))

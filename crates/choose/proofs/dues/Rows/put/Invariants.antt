@@ -8,7 +8,7 @@ use Rattle.choose.proofs.dues.Rows.put.Given as goal
 abbrev pub invariant-loop-low : goal.invariant-loop-low
 invariant-loop-low l =
     (l.low ≤ 24) × FewRows l.low (rows_of l.self.begin)
-    × DuesTo l.task.of.net.now (lag_at l.task.of.lab.now) l.id l.along l.low l.low 0 l.self.due l.self.begin
+    × DuesTo l.fn.of.task.now.of.net.now (lag_at l.fn.of.task.now.of.lab.now) l.fn.of.id l.along l.low l.low 0 l.self.due l.self.begin
 
 abbrev pub decreases-loop-low : goal.decreases-loop-low
 decreases-loop-low l = 24 - l.low

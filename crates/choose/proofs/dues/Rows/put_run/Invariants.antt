@@ -8,4 +8,4 @@ use Rattle.choose.proofs.dues.Rows.put_run.Given as goal
 abbrev pub invariant-loop-e : goal.invariant-loop-e
 invariant-loop-e l =
     (rows_of l.self.begin ≤ rows_of l.initial.self.begin + l.e-index)
-    × DuesTo l.task.of.net.now (lag_at l.task.of.lab.now) l.id l.along l.run.low l.run.high l.e-index l.self.due l.self.begin
+    × DuesTo l.fn.of.task.now.of.net.now (lag_at l.fn.of.task.now.of.lab.now) l.fn.of.id l.along l.run.low l.run.high l.e-index l.self.due l.self.begin

@@ -1,4 +1,4 @@
--- `choose::cells::wire` meets its contract: the cell at hand is put.
+-- `choose::cells::Numbering::wire` meets its contract: the cell at hand is put.
 use Rattle.std.proofs.Common.{◌≡◌, ℕ, ◌+◌, ◌/◌, ◌%◌, ◌≤◌, ◌<◌, List, length, replicate, rules, arith, refl, sym, subst, ap, ◌∙◌, get_or-set_same}
 use lib.ListN.{set}
 use Rattle.std.specs.Prelude.{slice_range}
@@ -21,7 +21,7 @@ use Rattle.choose.specs.inner.Sources.{source_at, SourceRows, width_at, OperandR
 use Rattle.choose.specs.inner.Wires.{Placed}
 use Rattle.choose.proofs.Sources.{operands_none, operands_more}
 use Rattle.choose.proofs.Right.{few_cells, node_low, rows, few_places}
-use Rattle.choose.proofs.cells.wire.Goals as goal
+use Rattle.choose.proofs.cells.Numbering.wire.Goals as goal
 
 -- The edges by the node that they enter, of the record.
 entering : {net : Netlist} {w : Wires} {ins begin : List ℕ} → WiresOf net w → Sorts w.to.now w.edges w.nodes (replicate 1024 0) ins begin
@@ -72,14 +72,14 @@ pub loop-i-init : goal.loop-i-init
 loop-i-init c = (λ j h. absurd (let z : ⊥ = omega arith in z), operands_none _ _ _ _ _ _ _ _ _ (get_or-set_same c.args.to.now.first 0 0 0 (omega (arith, c.args.to.now.first_rows))))
 
 pub of-requires : goal.of-requires
-of-requires c = let task = c.args.task.now in node_at task.of.labelled task.known c.requires c.as_slice-code-items.ensures c.loop-i-test.true
+of-requires c = let task = c.args.self.now.task.now in node_at task.of.labelled task.known c.requires c.as_slice-code-items.ensures c.loop-i-test.true
 
 pub bounds-net-node : goal.bounds-net-node
-bounds-net-node c = let task = c.args.task.now in node_at task.of.labelled task.known c.requires c.as_slice-code-items.ensures c.loop-i-test.true
+bounds-net-node c = let task = c.args.self.now.task.now in node_at task.of.labelled task.known c.requires c.as_slice-code-items.ensures c.loop-i-test.true
 
 pub put_operands-requires-clause-room : goal.put_operands-requires-clause-room
 put_operands-requires-clause-room c =
-    let task = c.args.task.now in
+    let task = c.args.self.now.task.now in
     let l = c.loop-i in
     let codes = c.as_slice-code-items.ensures in
     let seen = seen_at task.of.labelled task.known c.requires c.wires.ensures c.entering-ins.result c.entering-ins.ensures (search rules) codes c.loop-i-test.true c.of.ensures in
@@ -89,12 +89,12 @@ put_operands-requires-clause-room c =
 
 pub put_operands-requires-clause-by_index : goal.put_operands-requires-clause-by_index
 put_operands-requires-clause-by_index c =
-    let task = c.args.task.now in
+    let task = c.args.self.now.task.now in
     (seen_at task.of.labelled task.known c.requires c.wires.ensures c.entering-ins.result c.entering-ins.ensures (search rules) c.as_slice-code-items.ensures c.loop-i-test.true c.of.ensures).sources
 
 pub loop-i-preserved : goal.loop-i-preserved
 loop-i-preserved c =
-    let task = c.args.task.now in
+    let task = c.args.self.now.task.now in
     let l = c.loop-i in
     let d = c.put_operands.ensures in
     let codes = c.as_slice-code-items.ensures in
@@ -102,5 +102,5 @@ loop-i-preserved c =
     let few = few_cells task.of.labelled task.known c.requires in
     let next = seen.more l.to.first l.to.operand _ (omega (arith, l.to.first_rows, few, ap length codes)) (rw (sym codes) at l.invariant.1) d.operands in
     let kind = task.of.net.now.kind in
-    let kinds = fill_more (λ j. at kind (at c.args.of.now.code j / 32)) l.to.kind l.i _ (omega (arith, l.to.kind_rows, few, ap length codes)) (ap (λ x. at kind (at x l.i / 32)) codes) l.invariant.0 in
+    let kinds = fill_more (λ j. at kind (at c.args.self.now.code j / 32)) l.to.kind l.i _ (omega (arith, l.to.kind_rows, few, ap length codes)) (ap (λ x. at kind (at x l.i / 32)) codes) l.invariant.0 in
     (rw d.kind kinds, rw d.first (rw codes at next))
