@@ -11,7 +11,7 @@ ghost use Rattle.graph.specs.inner.Layers.{Queued, with_mark, EndOf, Spread, Ste
 use crate::{EdgesByNode, NODES, Wires};
 
 // After so many passes: the marked nodes at the front of `queue`, those that the last pass marked from place `lo` up to `hi`.
-// Kept: an array beside how many stand in it, since a layer is handed out and is Copy, which `Items` cannot be: what it hides its value does not give back.
+// Kept: an array beside how many stand in it: a layer is public and Copy, and `Items` cannot be Copy (its model hides places).
 #[derive(Clone, Copy)]
 pub struct Layer {
     pub passes: usize,
@@ -80,7 +80,7 @@ impl Layer {
 }
 
 // Passes up to one that marks nothing, `most` of them at most. What holds after each of them, holds after the last.
-// Kept: `pin` is a number, since this crate knows no gate kinds: it stands beside rules.
+// Kept: `kind` and `pin` go on as they are, here, in `first` and in `reached`: the pin is a byte of the record that C lends, and a struct of the three would be made for one call.
 pub fn walk(wires: Wires<'_>, kind: &[u8], pin: u8, most: usize) -> Layer
     requires { wires.nodes ≤ length kind.now }
     ensures after { AfterPasses wires.entry kind.now pin result }

@@ -10,10 +10,10 @@ ghost use Rattle.graph.specs.inner.Sort.{EdgesOf, Ordered};
 ghost use Rattle.graph.specs.inner.Order.{Waiting, Tried, Stage, Taking, Going, Found};
 
 use crate::both_ways::BothWays;
-use crate::{EDGES, NODES, Wires};
+use crate::{EDGES, NODES, Wires, column};
 
 // The order so far: its nodes at the first `placed` places of `order`, and marked. Which edges are open.
-// Kept: an array beside how many stand in it, since `evaluation_order` hands out the array: `Items` cannot be Copy, as what keeps the order is.
+// Kept: an array beside how many stand in it: `evaluation_order` and lags' public `Ground`, which is Copy, give the order as an array, and `Items` cannot be Copy.
 #[derive(Clone, Copy)]
 pub struct Placing {
     pub placed: usize,
@@ -27,15 +27,11 @@ impl Placing {
     fn new(both: &BothWays<'_>) -> Placing
         ensures { Stage both.now result × (result.placed ≡ 0) }
     {
-        let mut is_open = [false; EDGES];
-        for e in 0..both.wires.edges {
-            is_open[e] = both.count[e] == 0;
-        }
         Placing {
             placed: 0,
             order: [0; NODES],
             mark: [false; NODES],
-            is_open,
+            is_open: column(both.wires.edges, false, |e| both.count[e] == 0),
         }
     }
 
@@ -100,6 +96,8 @@ impl Placing {
     }
 }
 
+// Kept, here and below: the wires and the counts as two. A caller has counts of its own (the netlist's, those under labels, the moved ones) and would make a struct for
+// one call; within, `BothWays` is that struct.
 // All nodes in evaluation order, or as many as found a place: the others wait for each other, round a loop without a register.
 fn order_of(wires: Wires<'_>, count: &[u8]) -> Placing
     requires { wires.edges ≤ length count.now }

@@ -36,7 +36,7 @@ pub fn verdict(net: Netlist) -> Result<(), Refusal>
     }) {
         return Err(Refusal::EdgeLine((FIRST_LINE + nodes + e) as u16));
     }
-    judge(net)
+    judge(&net)
 }
 
 // The first n rows of a column, and `empty` in the others.

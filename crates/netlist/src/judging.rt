@@ -9,9 +9,9 @@ use crate::{Netlist, Refusal};
 use rules::{Kind, fan_fits};
 
 // Rules 5, 6 and 7 in turn: the lowest node with a wrong number of in-edges; a loop; the lowest node that no input reaches, or that reaches no output.
-pub fn judge(net: Netlist) -> Result<(), Refusal>
-    requires { Fit net }
-    ensures { Judged net (says_of result) }
+pub fn judge(net: &Netlist) -> Result<(), Refusal>
+    requires { Fit net.now }
+    ensures { Judged net.now (says_of result) }
 {
     let nodes = net.nodes as usize;
     let wires = net.wires();

@@ -20,6 +20,13 @@ pub use rewriting::rewrite;
 pub use walking::walk;
 pub use writing::{put_text, write, written_len};
 
+// How many bytes the lines have.
+const HEAD_LINE: usize = 17;
+
+const NODE_LINE: usize = 7;
+
+const EDGE_LINE: usize = 21;
+
 // "A netlist is its head, its N nodes and its E edges; record rows past them are read by nothing, and reading makes them 0."
 // Kept: the C interface lends this record, so its columns have a fixed length, and gate kinds are bytes in it.
 #[repr(C)]
@@ -78,6 +85,7 @@ pub enum Refusal {
 }
 
 // A walk of the lines of a text: how many nodes there are, and which of them are marked. The promise is in specs/Walk.
+// Kept: the layer's marks are a whole column of fixed memory, since there is no heap; how many count stands beside it, as a layer does not hold its netlist.
 #[derive(Clone, Copy)]
 pub struct Walked {
     pub nodes: usize,

@@ -8,7 +8,7 @@ ghost use Rattle.netlist.specs.Read.{line_of_node, line_of_edge, nothing_more, e
 
 use crate::filled::Filled;
 use crate::judging::judge;
-use crate::{Netlist, Refusal};
+use crate::{EDGE_LINE, HEAD_LINE, NODE_LINE, Netlist, Refusal};
 use frame::DigitTable;
 use graph::{EDGES, NODES};
 use rules::{edge_fits, head_fits, node_fits};
@@ -48,7 +48,7 @@ fn read_head(table: &DigitTable, text: &[u8]) -> Result<Filled, Refusal>
         return Err(Refusal::Head);
     }
     Ok(Filled {
-        at: 17,
+        at: HEAD_LINE,
         net: with_head(period, derate, nodes, edges),
     })
 }
@@ -59,7 +59,7 @@ fn read_nodes(table: &DigitTable, text: &[u8], headed: Filled) -> Result<Filled,
     ensures { Goes result (nodes_from headed.net.nodes 0 (line_of_node headed.net 0) (drop headed.at text.now) headed.net) (λ f. edges_from f.net.edges 0 (line_of_edge f.net 0) (drop f.at text.now) f.net) }
 {
     let mut net = headed.net;
-    // Kept: a cursor: specs/Read goes line by line, and no offset is computed in closed form.
+    // Kept: a cursor: specs/Read goes line by line, and the lines may come to be of several lengths.
     let mut at = headed.at;
     for v in 0..net.nodes as usize {
         let line = (FIRST_LINE + v) as u16;
@@ -69,7 +69,7 @@ fn read_nodes(table: &DigitTable, text: &[u8], headed: Filled) -> Result<Filled,
         }
         net.kind[v] = kind;
         net.delay[v] = delay;
-        at += 7;
+        at += NODE_LINE;
     }
     Ok(Filled { at, net })
 }
@@ -80,6 +80,7 @@ fn read_edges(table: &DigitTable, text: &[u8], noded: Filled) -> Result<Filled, 
 {
     let mut net = noded.net;
     let nodes = net.nodes;
+    // Kept: a cursor, as in `read_nodes`.
     let mut at = noded.at;
     for e in 0..net.edges as usize {
         let line = (FIRST_LINE + (nodes as usize) + e) as u16;
@@ -95,12 +96,13 @@ fn read_edges(table: &DigitTable, text: &[u8], noded: Filled) -> Result<Filled, 
         net.to[e] = to;
         net.count[e] = count;
         net.start[e] = start;
-        at += 21;
+        at += EDGE_LINE;
     }
     Ok(Filled { at, net })
 }
 
 // Rules 1 to 4: all lines, and nothing after them.
+// Kept, for all stages: the table and the text as two. The contracts are of the text alone, and a struct of both would be made here and taken apart at each line.
 pub fn read_lines(table: &DigitTable, text: &[u8]) -> Result<Netlist, Refusal>
     ensures { Lined text.now result }
 {
@@ -120,6 +122,6 @@ pub fn read(text: &[u8]) -> Result<Netlist, Refusal>
     ensures { Reads text.now (says_of result) (net_of result) }
 {
     let net = read_lines(&DigitTable::new(), text)?;
-    judge(net)?;
+    judge(&net)?;
     Ok(net)
 }

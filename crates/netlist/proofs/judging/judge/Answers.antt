@@ -59,7 +59,7 @@ pub returns-then-looped : goal.returns-then-looped
 returns-then-looped c =
     let k = c.wires-wires.ensures in
     past (all_none (λ v h. fan k c.fan_ins-ins.result c.fan_ins-ins.ensures true v h (let p = c.in_default.ensures v h in search rules)))
-    (here (told_yes _ (loop k c.looped.result (c.looped.ensures c.args.net.kind)) c.if-looped.true, refl))
+    (here (told_yes _ (loop k c.looped.result (c.looped.ensures c.args.net.now.kind)) c.if-looped.true, refl))
 
 pub returns-in-Some-lowest : goal.returns-in-Some-lowest
 returns-in-Some-lowest c =
@@ -69,7 +69,7 @@ returns-in-Some-lowest c =
     let both = λ (v : ℕ). flag c.reached-fed.result v && flag c.reached-used.result v in
     let test = reach w c.requires c.reached-fed.result c.reached-used.result c.reversed.result c.reversed.ensures.nodes c.reversed.ensures.ends c.reached-fed.ensures c.reached-used.ensures in
     past (all_none (λ v h. fan w c.fan_ins-ins.result c.fan_ins-ins.ensures true v h (let p = c.in_default.ensures v h in search rules)))
-    (past (λ x g. told_no _ (loop w c.looped.result (c.looped.ensures c.args.net.kind)) c.if-looped.false g.0)
+    (past (λ x g. told_no _ (loop w c.looped.result (c.looped.ensures c.args.net.now.kind)) c.if-looped.false g.0)
     (here (
       v,
       record {
@@ -86,5 +86,5 @@ returns c =
     let both = λ (v : ℕ). flag c.reached-fed.result v && flag c.reached-used.result v in
     let test = reach w c.requires c.reached-fed.result c.reached-used.result c.reversed.result c.reversed.ensures.nodes c.reversed.ensures.ends c.reached-fed.ensures c.reached-used.ensures in
     past (all_none (λ v h. fan w c.fan_ins-ins.result c.fan_ins-ins.ensures true v h (let p = c.in_default.ensures v h in search rules)))
-    (past (λ x g. told_no _ (loop w c.looped.result (c.looped.ensures c.args.net.kind)) c.if-looped.false g.0)
+    (past (λ x g. told_no _ (loop w c.looped.result (c.looped.ensures c.args.net.now.kind)) c.if-looped.false g.0)
     (past (all_none (λ v h. told_yes (both v) (test v h) (let p = c.in_default-lowest.ensures v h in search rules))) refl))

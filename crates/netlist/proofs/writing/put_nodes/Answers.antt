@@ -12,24 +12,24 @@ loop-i-init c = search rules
 -- There is room for the line.
 pub overflow_add-at : goal.overflow_add-at
 overflow_add-at c =
-    let f = node_line c.args.net in
+    let f = node_line c.args.net.now in
     let i = c.loop-i.i in
-    omega (arith, joined_part f c.args.net.nodes i (omega arith), joined_more f i, node_length c.args.net i, c.well_formed)
+    omega (arith, joined_part f c.args.net.now.nodes i (omega arith), joined_more f i, node_length c.args.net.now i, c.well_formed)
 
 pub loop-i-preserved : goal.loop-i-preserved
 loop-i-preserved c =
     let here = c.loop-i in
     let a = c.args in (
-      omega (arith, joined_more (node_line a.net) here.i, node_length a.net here.i),
+      omega (arith, joined_more (node_line a.net.now) here.i, node_length a.net.now here.i),
       c.put_line.ensures
-          ∙ ap₂ (λ l at. placed l at (node_line a.net here.i)) here.invariant.1 here.invariant.0
-          ∙ put_more (node_line a.net) a.out.now a.at0 here.i (omega (arith, joined_part (node_line a.net) a.net.nodes here.i (omega arith))),
+          ∙ ap₂ (λ l at. placed l at (node_line a.net.now here.i)) here.invariant.1 here.invariant.0
+          ∙ put_more (node_line a.net.now) a.out.now a.at0 here.i (omega (arith, joined_part (node_line a.net.now) a.net.now.nodes here.i (omega arith))),
     )
 
 pub returns : goal.returns
 returns c =
     let here = c.loop-i in
-    let net = c.args.net in
+    let net = c.args.net.now in
     let e : here.i ≡ net.nodes = omega arith in (
       here.invariant.1 ∙ ap (λ n. sets c.args.out.now c.args.at0 (joined (node_line net) n)) e,
       here.invariant.0 ∙ ap (λ n. c.args.at0 + length (joined (node_line net) n)) e,

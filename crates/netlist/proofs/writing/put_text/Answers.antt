@@ -39,7 +39,7 @@ returns-clause-out_after c =
     let n = joined (node_line a.net) a.net.nodes in
     let m = joined (edge_line a.net) a.net.edges in
     let room : length (text_of a.net) ≤ length a.out.now = omega (arith, c.text_len.ensures) in
-    let one = c.put_line.ensures ∙ ap (λ bs. placed a.out.now 0 (line_of bs)) c.head_bytes-b.ensures in
+    let one = c.put_line.ensures ∙ ap (λ bs. placed a.out.now 0 (line_of bs)) c.head_bytes.ensures in
     let two = c.put_nodes-at.ensures.0 ∙ ap (λ l. sets l (line_size 7) n) one in
     c.put_edges.ensures.0 ∙ ap₂ (λ l at. sets l at m) two c.put_nodes-at.ensures.1 ∙ text_parts a.net a.out.now room
     ∙ sym (ap (sets a.out.now 0) (text_in_room a.net (length a.out.now) c.if-net-gt-MOST_NODES.false c.if-net-gt-MOST_EDGES.false room))
