@@ -61,6 +61,7 @@ struct Job {
 }
 
 // The job whose frame the line is.
+// Kept: the kinds are tried one by one, since `frame::line_at` finds a line of a kind that is given.
 fn job_of(line: &[u8]) -> Option<Job> {
     for task in TASKS {
         if let Some(bytes) = frame::line_at::<6>(line, 0, task as u8) {

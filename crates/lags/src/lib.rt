@@ -21,6 +21,7 @@ use order::order_by;
 use query::Query;
 use times::working_delays;
 
+// Kept: the order, the delays, and the times found of them are whole columns, as labels are (src/climb.rt): no heap, and the netlist says how many nodes it has.
 // What the search goes by and no period plays a part in: the nodes in an order that can be evaluated, the edges by the node that they enter,
 // and the working delays.
 #[derive(Clone, Copy)]

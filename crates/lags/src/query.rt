@@ -1,9 +1,6 @@
 // What the climb and the rounds go by: a netlist that reads, what no period plays a part in, and the period that is asked for.
 // Private to the crate: `least` hands on a netlist that reads, and its edges by node.
 ghost use Rattle.std.specs.Prelude.{◌≤◌, ◌<◌};
-ghost use Rattle.graph.specs.Layers.{Told};
-ghost use Rattle.graph.specs.inner.Marks.{Above};
-ghost use Rattle.lags.specs.inner.Wires.{Ready, Entering};
 
 use crate::Ground;
 use graph::{NODES, any_above};
@@ -15,9 +12,14 @@ pub struct Query<'a> {
     pub net: &'a Netlist,
     pub ground: &'a Ground,
     pub period: u32,
+    pub ghost few_nodes: { net.now.nodes ≤ 512 },
 }
 
 impl<'a> Query<'a> {
+    ghost use Rattle.graph.specs.Layers.{Told};
+    ghost use Rattle.graph.specs.inner.Marks.{Above};
+    ghost use Rattle.lags.specs.inner.Wires.{Ready, Entering};
+
     // The edges that enter node v.
     #[tactic(auto, using(crate::proofs::Wires::reads))]
     pub fn entering(&self, v: usize) -> &[u16]
@@ -29,7 +31,6 @@ impl<'a> Query<'a> {
 
     // Whether a node's time is above the period.
     pub fn any_late(&self, time: &[u32; NODES]) -> bool
-        requires { self.now.net.now.nodes ≤ 512 }
         ensures { Told result (Above time.now self.now.net.now.nodes self.now.period) }
     {
         any_above(&time[..self.net.nodes as usize], self.period)

@@ -15,15 +15,16 @@ use rules::is_pin;
 impl<'a> Query<'a> {
     // Whether a pin is late: an output at the end of a chain that is too long.
     fn late_pin(&self, time: &[u32; NODES]) -> bool
-        requires { self.now.net.now.nodes ≤ 512 }
         ensures { Told result (LatePin self.now.net.now.kind time.now self.now.net.now.nodes self.now.period) }
     {
         (0..self.net.nodes as usize).any(|v| is_pin(self.net.kind[v]) && self.period < time[v])
     }
 
     // Every late node's label goes up by one.
+    // Kept, here and where labels are asked for: that they are low, `Low`, is a clause. They are an array that the rounds raise in place and `Leasts` gives as it is, and the
+    // fact needs the netlist beside them: a struct of both would be taken apart at the end.
     fn raise(&self, time: &[u32; NODES], lab: &mut [u32; NODES])
-        requires { (self.now.net.now.nodes ≤ 512) × Low self.now.net.now.nodes lab.old }
+        requires { Low self.now.net.now.nodes lab.old }
         ensures { Lifted self.now.net.now.nodes self.now.period time.now lab.old lab.new }
     {
         for v in 0..self.net.nodes as usize {

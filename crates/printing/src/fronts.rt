@@ -5,7 +5,8 @@ ghost use Rattle.frame.specs.Frame.{line_of, placed};
 ghost use Rattle.printing.specs.Shown.{line_in};
 
 // The line of these bytes at the front of `out`, where there is room for it; how many bytes that took.
-// Kept: 0 is no number for none here: it is how many bytes were put. So in all that prints.
+// Kept: 0 is no number for none here: it is how many bytes were put. So in all that prints; and each has its own test for room: one function with the putting handed in
+// would take a closure that writes into `out`, no plainer.
 pub fn put_front(bytes: &[u8], out: &mut [u8]) -> usize
     requires { length bytes.now ≤ 16 }
     ensures out_after { out.new ≡ placed out.old 0 (line_of bytes.now) }

@@ -27,7 +27,7 @@ const LAG_LINE: usize = 11;
 pub const ROOM: usize = LONGEST + LAG_LINE * NODES;
 
 // What is printed: the first `len` of these bytes.
-// Kept: no heap, and a buffer that the value owns is an array of fixed size.
+// Kept: no heap, and a buffer that the value owns is an array of fixed size; `Items` holds u16.
 #[derive(Clone, Copy)]
 pub struct Printed {
     pub len: usize,

@@ -36,7 +36,7 @@ fn further(a: u32, w: u32, b: u32, x: u32, m: u32) -> u32
 }
 
 // The total, and each node's count.
-// Kept: no heap, so the counts are a column of fixed size.
+// Kept: no heap, so the counts are a column of fixed size; `Items` holds u16.
 #[derive(Clone, Copy)]
 struct Bill {
     total: u32,

@@ -33,7 +33,6 @@ fn moved_by(least: Move<'_>) -> Result<Retimed, Refusal>
     requires least_lags { LeastLags least.net.now (lags_of least.lab.now) }
     ensures { MovesTo least.entry.net.now (lags_of least.entry.lab.now) result }
 {
-    // Kept: `usize::from` is no plainer, and its result is a number of its own to the laws of `net.edges`.
     let edges = least.net.edges as usize;
     let counts = least.new_counts();
     if let Some(wide) = too_wide(&counts[..edges]) {
@@ -63,6 +62,8 @@ fn put_lags(lab: &[u32], lags: &mut [i32])
     }
 }
 
+// Kept, here and below: two buffers that C lends side by side (`retimer_retime`); a struct of the two would be made at the top and taken apart at the end. The labels are the
+// whole column that `least` gives.
 // The text of a moved netlist, where there is room, and its lags at the fronts of `out` and `lags`.
 fn put_both(net: Netlist, lab: &[u32], out: &mut [u8], lags: &mut [i32])
     requires nodes_in_bounds { (net.nodes ≤ length lab.now) × (net.nodes ≤ length lags.old) }

@@ -14,6 +14,7 @@ fn place_code(p: Place) -> u64
 }
 
 // A refusal's number.
+// Kept: an answer is one number, as the C interface has no enum; specs/Code gives it by this sum, and its bytes would have to be put one by one for `from_be_bytes`.
 pub fn refusal_code(reason: Refusal) -> u64
     ensures { result ≡ code (refusal reason) }
 {

@@ -49,6 +49,7 @@ impl TryFrom<u8> for Kind {
     }
 }
 
+// Kept, in all crates: of a kind that stands in the code the number is `Kind::Output as u8`, a constant; `From` is for a kind that is handed in.
 impl From<Kind> for u8 {
     ghost from_gives = { λ kind number. number ≡ number_of kind };
 
@@ -94,6 +95,7 @@ const THREE: Rule = Rule {
 };
 
 // The rule of each kind, in the order of their numbers.
+// Kept: a table by number and no match: document 01 asks for a constant table (docs/DECISIONS.md, its forms).
 const RULES: [Rule; 11] = [
     NO_IN_EDGE,
     OUTPUT,

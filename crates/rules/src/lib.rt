@@ -33,6 +33,7 @@ impl Rule {
 }
 
 // "N 2 to 512, E 1 to 1,024."
+// Kept: graph's `NODES` and `EDGES`, as a head's numbers: neither of the two crates lies below the other.
 const NODES: u16 = 512;
 
 const EDGES: u16 = 1024;
@@ -93,7 +94,7 @@ pub fn fan_fits(kind: u8, ins: u16) -> bool
 }
 
 // Whether a node of this kind is an input or an output.
-// Kept: the number as the record has it: one comparison, in hot loops.
+// Kept: the number as the record that C lends has it; a `Kind` would be made of it at each call, to be compared once.
 pub fn is_pin(kind: u8) -> bool
     ensures { result ≡ leb kind 1 }
 {

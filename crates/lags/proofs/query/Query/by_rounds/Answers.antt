@@ -29,4 +29,4 @@ pub returns-else-any_late : goal.returns-else-any_late
 returns-else-any_late c = search_found c.loop-round.invariant _ c.arrivals-last.ensures c.if-any_late.ensures
 
 pub raise-requires : goal.raise-requires
-raise-requires c = let i = c.loop-round.invariant in (search_few i, search_low i)
+raise-requires c = let i = c.loop-round.invariant in search_low i
