@@ -1,5 +1,5 @@
 -- The cells put together: what the functions ask of each other, and that the cells are a right program.
---   ready               what is known of a task, by what `choose` asks for
+--   known               what is known of a task, its columns cut to the edges, by what `choose` asks for
 --   size, low_lag       how many values are chosen; no lag is above 24
 --   arranged, okay_all  the order has each node once; each node has its cells: what `number_cells` and `put` ask for
 --   few_cells, node_low how many cells there are; their nodes
@@ -70,14 +70,21 @@ module _ {net : Netlist} {lab counts base : List ℕ} {k : ℕ} (ch : Choosing n
   pub lags_low : LagsBelow lab net.nodes 24
   lags_low = record { few = omega arith; low = λ v h. omega (arith, ch.few, lag_low v h) }
 
-  pub known : {clocks : ℕ} → LagsBelow lab net.nodes clocks → Known net lab counts base k clocks
+  -- The columns cut to the edges.
+  count_cut : (e : ℕ) → e < net.edges → at (take net.edges counts) e ≡ at counts e
+  count_cut e h = get_or-take net.edges counts e 0 h
+
+  base_cut : (e : ℕ) → e ≤ net.edges → at (take (net.edges + 1) base) e ≡ at base e
+  base_cut e h = get_or-take (net.edges + 1) base e 0 (omega arith)
+
+  pub known : {clocks : ℕ} → LagsBelow lab net.nodes clocks → Known net lab (take net.edges counts) (take (net.edges + 1) base) k clocks
   known low = record {
-    counted = c.counted;
-    count_rows = c.count_rows;
-    narrow = c.narrow;
-    based = ch.based;
-    base_rows = ch.base_rows;
-    chosen = ch.chosen;
+    counted = λ e h. count_cut e h ∙ c.counted e h;
+    count_rows = length-take-le net.edges counts c.count_rows;
+    narrow = λ e h. omega (arith, count_cut e h, c.narrow e h);
+    based = λ e h. base_cut e h ∙ ch.based e h;
+    base_rows = length-take-le (net.edges + 1) base (omega (arith, ch.base_rows));
+    chosen = ch.chosen ∙ sym (base_cut net.edges (omega arith));
     few = ch.few;
     low = low;
   }

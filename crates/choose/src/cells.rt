@@ -137,6 +137,5 @@ impl<'a> Numbering<'a> {
 pub fn order_of(task: &Task<'_>) -> [u16; NODES]
     ensures { Ordered task.now.of.net.now.nodes task.now.of.net.now.edges task.now.of.net.now.from task.now.of.net.now.to task.now.counts.now result }
 {
-    let wires = task.of.net.wires();
-    evaluation_order(wires, &bytes_of(&task.counts[..wires.edges]))
+    evaluation_order(task.of.net.wires(), &bytes_of(task.counts))
 }

@@ -19,7 +19,8 @@ use solve::solve;
 
 // The program of the moved netlist, over as many bits as are chosen, and what is due of its cells. How many cells there are.
 // Kept: columns are lent to be filled, and not handed out, which copies them: tried with the 57 KB of `Numbering` alone, "search 24 values, conflict on the
-// first 4" takes 5 µs more of 32, past its bar.
+// first 4" takes 5 µs more of 32, past its bar. And columns of fixed length with the number of cells beside them, no heap: `Items` holds u16 and grows at its end, while
+// a kind is a byte, and an operand is put at its place; `program` cuts the kinds to the cells.
 fn compile(task: &Task<'_>, to: &mut Columns<CELLS, FIRSTS, OPERANDS>, rows: &mut Rows) -> usize
     requires { (rows.old.due ≡ []) × (rows.old.begin ≡ 0 ∷ []) }
     ensures { Standing task.now.of.net.now (lags_of task.now.of.lab.now) task.now.k result to.new.kind to.new.first to.new.operand rows.new.due rows.new.begin }
@@ -54,6 +55,7 @@ fn top_of(lab: &[u32]) -> u32
 
 // The best choice that carries the start, or that none does.
 // Where nothing is chosen no lag is positive, so nothing is to be carried, and the empty choice is the only one.
+// Kept: `Choosing` is a clause and no ghost field, as it holds `Sure`, which has a walk for each gate in it; so the counts stand beside the move, here and in `choose`.
 fn best(of: Move<'_>, counts: &[u32], base: &[u32], k: u32) -> Option<u32>
     requires { Choosing of.net.now of.lab.now counts.now base.now k }
     ensures { Chooses of.entry.net.now (lags_of of.entry.lab.now) result }
@@ -61,13 +63,13 @@ fn best(of: Move<'_>, counts: &[u32], base: &[u32], k: u32) -> Option<u32>
     if k == 0 {
         return Some(0);
     }
-    let clocks = top_of(&of.lab[..of.net.nodes as usize]);
+    let edges = of.net.edges as usize;
     searched(&Task {
         of,
-        counts,
-        base,
+        counts: &counts[..edges],
+        base: &base[..edges + 1],
         k,
-        clocks,
+        clocks: top_of(&of.lab[..of.net.nodes as usize]),
     })
 }
 

@@ -111,7 +111,12 @@ impl Rows {
     {
         for e in along {
             let before = self.due.len();
-            append_dues(Leaving::of(of.task, *e as usize), run, &of.id, &mut self.due);
+            append_dues(
+                Leaving::of(of.task, *e as usize),
+                run,
+                &of.id,
+                &mut self.due,
+            );
             let after = self.due.len();
             if before < after {
                 self.begin.push(after as u16);

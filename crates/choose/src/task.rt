@@ -3,8 +3,8 @@ ghost use Rattle.choose.specs.inner.Task.{Known};
 
 use moves::Move;
 
-// A netlist with the labels of its least retiming, the new counts, how many values are chosen before each edge, and on all; and the largest lag, which
-// is how many clocks have cells.
+// A netlist with the labels of its least retiming, the new count of each edge, and how many values are chosen: before each edge and at the end on all, and `k` on all;
+// and the largest lag, which is how many clocks have cells.
 #[derive(Clone, Copy)]
 pub struct Task<'a> {
     pub of: Move<'a>,

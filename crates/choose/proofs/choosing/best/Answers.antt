@@ -7,8 +7,8 @@ use Rattle.choose.proofs.choosing.best.Goals as goal
 pub returns-then-k-eq0 : goal.returns-then-k-eq0
 returns-then-k-eq0 c = chosen_none c.requires (omega arith)
 
-pub top_of-clocks-requires : goal.top_of-clocks-requires
-top_of-clocks-requires c = cut_lags c.args.of.labelled.rows (lags_low c.requires)
+pub top_of-requires : goal.top_of-requires
+top_of-requires c = cut_lags c.args.of.labelled.rows (lags_low c.requires)
 
 pub invariant_of-searched : goal.invariant_of-searched
-invariant_of-searched c = record { known = known c.requires (lags_cut c.args.of.labelled.rows c.top_of-clocks.ensures) }
+invariant_of-searched c = record { known = known c.requires (lags_cut c.args.of.labelled.rows c.top_of.ensures) }

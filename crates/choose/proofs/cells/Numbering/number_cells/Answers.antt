@@ -9,8 +9,7 @@ loop-t-init c = (refl, refl, numbered_none _ _ _ _ c.requires.none.0 c.requires.
 pub loop-t-preserved : goal.loop-t-preserved
 loop-t-preserved c =
     let i = c.loop-t.invariant in
-    let (task, order) = c.number_clock.ensures.of in
-    (
+    let (task, order) = c.number_clock.ensures.of in (
       task ∙ i.0,
       order ∙ i.1,
       numbered_clock _ _ c.loop-t.t _ _ c.args.self.now.arranged (rw (i.0, i.1) at c.number_clock.ensures.numbered),
