@@ -9,13 +9,12 @@
 use Prim.Native.Nat.{ℕ, zero, suc, ◌+◌, ◌-◌, ◌*◌, ◌^◌, ◌/◌, ◌<◌, ◌≤◌}
 use native.Mathlib.Omega.{arith}
 use native.Mathlib.Nat.{pow-suc, mul_assoc, mul_comm, mul-le-mul_left, mul-le-mul_right}
-use native.Mathlib.Numerals.{add-one}
-use mathlib.Core.Path.{◌≡◌, refl, sym, ap, ap₂, ◌∙◌, subst}
+use mathlib.Core.Path.{◌≡◌, refl, ap, subst}
 use mathlib.Core.List.{List, [], ◌∷◌, map}
 use lib.Count.{ones, ones_cat}
 use lib.Pow.{pow_mono}
 use lib.ListN.{length, take, drop, length-take, length-drop}
-use lib.Seq.{drop-cons, get_or-take, get_or-drop}
+use lib.Seq.{get_or-take, get_or-drop}
 use Rattle.theory.specs.Gate.{ones as total}
 use Rattle.graph.specs.Columns.{at}
 use Rattle.gates.specs.inner.Gates.{part, AllBits, word_from, Narrow}

@@ -4,9 +4,9 @@
 #![tactic(auto)]
 
 mod table;
-mod truths;
+mod truth;
 mod values;
 
 pub use table::IndexTable;
-pub use truths::put_truths;
-pub use values::{GateList, evaluate, value};
+pub use truth::truths;
+pub use values::{Gate, GateList, evaluate};

@@ -1,6 +1,6 @@
 // Values from signals. What a gate sees is listed as places in `sig`, where 0 or 1 stands.
 // Kept: signals are bytes and no bools, since vectors and outputs are bytes; and that they are in place for a list of gates (`InputRows`, `Evaluable`, `AllBits`) is asked
-// at each call and stands in no type, since it is said of two things together, of which the signals are lent for writing.
+// at each call, here and above, and stands in no type, since it is said of two things together, of which the signals are lent for writing.
 // Required: signals in place for each gate, and its truth word; the plan of a netlist and the program of a search have them.
 ghost use Rattle.std.specs.Prelude.{◌≡◌, List, map, length, ℕ, suc, ◌*◌, ◌^◌, ◌<◌, ◌≤◌};
 ghost use Rattle.theory.specs.Gate.{gate};
@@ -8,6 +8,14 @@ ghost use Rattle.graph.specs.Columns.{at};
 ghost use Rattle.gates.specs.inner.Gates.{part, word_from, Reckons, InputRows, evaluated, Evaluable, Truths};
 
 use crate::table::IndexTable;
+
+// A gate: its truth word, the table that this is read by, and what the gate sees.
+#[derive(Clone, Copy)]
+pub struct Gate<'a> {
+    pub truth: u16,
+    pub index: &'a IndexTable,
+    pub sees: &'a [u16],
+}
 
 // Gates in columns: `node` lists those that are evaluated, in turn; of node v, `truth[v]` is the truth word, and what it sees is listed from `first[v]` up to
 // `first[v + 1]` in `list`; `index` is the table that truth words are read by.
@@ -21,12 +29,17 @@ pub struct GateList<'a> {
 }
 
 impl<'a> GateList<'a> {
-    // What gate v sees.
-    pub fn sees(self, v: usize) -> &'a [u16]
-        requires { (suc v < length self.first.now) × (at self.first.now v ≤ at self.first.now (suc v)) × (at self.first.now (suc v) ≤ length self.list.now) }
-        ensures { result.now ≡ part self.entry.list.now (at self.entry.first.now v) (at self.entry.first.now (suc v)) }
+    // Gate v.
+    pub fn gate(self, v: usize) -> Gate<'a>
+        requires { (v < length self.truth.now) × (suc v < length self.first.now) × (at self.first.now v ≤ at self.first.now (suc v)) × (at self.first.now (suc v) ≤ length self.list.now) }
+        ensures truth { result.truth ≡ at self.entry.truth.now v }
+        ensures sees { result.sees.now ≡ part self.entry.list.now (at self.entry.first.now v) (at self.entry.first.now (suc v)) }
     {
-        &self.list[self.first[v] as usize..self.first[v + 1] as usize]
+        Gate {
+            truth: self.truth[v],
+            index: self.index,
+            sees: &self.list[self.first[v] as usize..self.first[v + 1] as usize],
+        }
     }
 }
 
@@ -42,13 +55,16 @@ fn gather(sees: &[u16], seed: usize, sig: &[u8]) -> usize
     word
 }
 
-// The value of the gate with this truth word that sees these signals.
-pub fn value(truth: u16, index: &IndexTable, sees: &[u16], sig: &[u8]) -> u8
-    requires { InputRows truth sees.now sig.now }
-    ensures { (result ≤ 1) × ((kind : ℕ) → Reckons kind (length sees.now) truth → result ≡ gate kind (map (at sig.now) sees.now)) }
-{
-    let bit = index.bit_of(gather(sees, (truth / 512) as usize, sig));
-    ((truth >> bit) % 2) as u8
+impl<'a> Gate<'a> {
+    // Its value under these signals.
+    pub fn value(self, sig: &[u8]) -> u8
+        requires { InputRows self.truth self.sees.now sig.now }
+        ensures { (result ≤ 1) × ((kind : ℕ) → Reckons kind (length self.entry.sees.now) self.entry.truth → result ≡ gate kind (map (at sig.now) self.entry.sees.now)) }
+    {
+        let word = gather(self.sees, (self.truth / 512) as usize, sig);
+        let bit = self.index.bit_of(word);
+        ((self.truth >> bit) % 2) as u8
+    }
 }
 
 // The gates of the list, in turn: the value of gate v goes to base + v.
@@ -59,6 +75,6 @@ pub fn evaluate(gates: GateList<'_>, base: usize, sig: &mut [u8])
 {
     for node in gates.node {
         let v = *node as usize;
-        sig[base + v] = value(gates.truth[v], gates.index, gates.sees(v), sig);
+        sig[base + v] = gates.gate(v).value(sig);
     }
 }

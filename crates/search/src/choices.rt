@@ -6,14 +6,15 @@ ghost use Rattle.std.specs.Prelude.{◌≡◌, ℕ, ◌↔◌, ◌+◌, ◌-◌,
 ghost use Rattle.std.specs.List.{suffix_len};
 ghost use Rattle.theory.specs.Move.{Prefers};
 ghost use Rattle.graph.specs.Columns.{at};
-ghost use Rattle.search.specs.inner.Program.{asked, Fillable, SolvesLists};
+ghost use Rattle.search.specs.inner.Program.{operands_of, asked, Fillable, SolvesLists};
 ghost use Rattle.search.specs.inner.Problem.{columns_of};
 ghost use Rattle.search.specs.inner.States.{next_after, ChoiceShown, Truthful, CanEvaluate, EvaluatedTo, Advanced, Jumped, filled, ListOf, Better, Plan, Fresh};
 
 use crate::{LEVELS, Program, SHOWN};
-use gates::{IndexTable, value};
+use gates::{Gate, IndexTable};
 
 // How far the search goes: the limit of choices, how many dues there are, and where the cells and the dues of each level begin.
+// Kept: the levels stand whole: that there are bits + 1 of them the program says, and the search looks them up by a bit's place.
 #[derive(Clone, Copy)]
 pub struct Extent {
     pub limit: u32,
@@ -32,7 +33,23 @@ pub struct Cells<'a> {
     pub ghost truths: { Truthful program.kind.now program.first.now truth.now },
 }
 
+impl<'a> Cells<'a> {
+    // The gate of cell i.
+    fn gate(self, i: usize) -> Gate<'a>
+        requires { i < length self.program.kind.now }
+        ensures truth { result.truth ≡ at self.entry.truth.now i }
+        ensures sees { result.sees.now ≡ operands_of self.entry.program.first.now self.entry.program.operand.now i }
+    {
+        Gate {
+            truth: self.truth[i],
+            index: self.index,
+            sees: self.program.operands(i),
+        }
+    }
+}
+
 // What is due, in rows: the level of each cell, the dues, and at each of their places how much is left of its row.
+// Kept: columns side by side, as in `DueRows`.
 #[derive(Clone, Copy)]
 pub struct Rows<'a> {
     pub level: &'a [u8],
@@ -57,17 +74,15 @@ pub fn two_to(k: u32) -> u32
 }
 
 // The cells from `start` up to `end`, in turn. The larger of the two.
-// Kept: a loop beside that of `gates::evaluate`, which goes through a list of gates: here they are a range, and a column that lists them would be read once more
-// for each of the search's evaluations.
+// Kept: two lines beside the two of `gates::evaluate`, which goes through a list of gates and this one through a range; over any iterator the two laws (`evaluated`,
+// `EvaluatedTo`) would be of what it yields, no plainer.
 fn evaluate(cells: &Cells<'_>, start: usize, end: usize, sig: &mut [u8]) -> usize
     requires { CanEvaluate cells.now.program.bits (columns_of cells.now.program) start end sig.old }
     ensures { EvaluatedTo cells.now.program.bits (columns_of cells.now.program) start end sig.old sig.new result }
 {
-    let program = cells.program;
-    let truth = cells.truth;
-    let index = cells.index;
+    let cells = *cells;
     for i in start..end {
-        sig[SHOWN + i] = value(truth[i], index, program.operands(i), sig);
+        sig[SHOWN + i] = cells.gate(i).value(sig);
     }
     start.max(end)
 }
@@ -90,6 +105,8 @@ fn ones_at_end(bits: &[u8]) -> usize
 
 // The bits of the first choice after this one that differs in one of the first m: those from place m on turn to 0, and so do the 1s next before them;
 // the 0 before these turns to 1. The place after that one; 0 where there is none.
+// Kept: 0 and no None: it is how many of the first bits stand up to the one that turned, and `jump` looks up the levels by it, 0 as any other.
+// Kept, here, in `jump` and in `list_of`: the bits' number and the signals as two, as the signals are lent for writing.
 fn advance(k: usize, m: usize, sig: &mut [u8]) -> usize
     requires { (m ≤ k) × (k ≤ length sig.old) }
     ensures { Advanced k m sig.old sig.new result }

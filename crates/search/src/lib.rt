@@ -13,7 +13,7 @@ ghost use Rattle.search.specs.inner.Problem.{columns_of, SolvesProblem};
 use crate::choices::{Cells, Extent, Rows, best_list, two_to};
 pub use crate::program::{Columns, Owed, Problem, Program};
 use crate::rows::{DueRows, put_levels};
-use gates::{IndexTable, put_truths};
+use gates::{IndexTable, truths};
 
 // Cells, of 512 nodes at 24 clocks each; where the operands of each begin and those of the last end; all operands, and dues, of 1,024 edges at 24 clocks each.
 pub const CELLS: usize = 12288;
@@ -68,8 +68,7 @@ fn search_within<const C: usize, const D: usize, const S: usize>(
         levels,
         rows: begin,
     };
-    let mut truth = [0u16; C];
-    put_truths(program.kind, program.first, &mut truth);
+    let truth = truths::<C>(program.kind, program.first);
     let index = IndexTable::new();
     let cells = Cells {
         program,

@@ -8,11 +8,11 @@ ghost use Rattle.search.specs.inner.Program.{program_of, operands_of, RightProgr
 // A program: of each cell the kind of its gate, and where its operands begin; all operands; how many bits are chosen.
 #[derive(Clone, Copy)]
 pub struct Program<'a> {
-    // Kept: a column of the record's bytes, each of which `put_truths` takes for a gate kind once.
+    // Kept: bytes, copied from the record's column; as `Kind`s each would be made of its byte twice, as choose and solve order the column before `truths` reads it.
     pub kind: &'a [u8],
     // One place more than there are cells: where the operands of the last one end.
     pub first: &'a [u16],
-    // Kept: an operand is one number and no enum, as it is the place of its signal: `gates::value` reads it there, bit or cell.
+    // Kept: an operand is one number and no enum, as it is the place of its signal: `Gate::value` reads it there, bit or cell.
     pub operand: &'a [u16],
     pub bits: u32,
     pub ghost right: { RightProgram (length kind.now) bits (program_of kind.now first.now operand.now) },
@@ -20,6 +20,8 @@ pub struct Program<'a> {
 
 impl<'a> Program<'a> {
     // What cell i sees.
+    // Kept: one line, as in gates `gate`, graph `of` and `row` below: what makes the places rise is another fact in each type (`RightProgram`, `Evaluable`, `rising`,
+    // `Owes`), so a shared type would ask it again.
     pub fn operands(self, i: usize) -> &'a [u16]
         requires { i < length self.kind.now }
         ensures { result.now ≡ operands_of self.entry.first.now self.entry.operand.now i }
@@ -71,7 +73,8 @@ impl<const CELLS: usize, const FIRSTS: usize, const OPERANDS: usize> Columns<
 // What is due, in rows: row e stands in `due` from begin[e] up to begin[e + 1], a run of one edge's moved clocks.
 #[derive(Clone, Copy)]
 pub struct Owed<'a> {
-    // Kept: a due is one number, 2 i + x for "cell i must give x", and no pair: columns of pairs take twice the fixed memory, which is cleared for each search.
+    // Kept: a due is one number, 2 i + x for "cell i must give x", and no pair: columns of pairs take twice the fixed memory, which is cleared for each search, and
+    // `Items` holds numbers.
     pub due: &'a [u16],
     // One place more than there are rows: where the last one ends.
     pub begin: &'a [u16],

@@ -45,6 +45,7 @@ fn put_left(left: &mut [u8])
 }
 
 // The rows that are put so far, by the level of each cell: the dues, and at each of their places how much of its row is left.
+// Kept: `left` beside `row`, and no column of pairs: `Items` holds numbers, and the laws (`SameDues`, `of_level`) are of the dues alone.
 #[derive(Drop)]
 pub struct DueRows<'a, const D: usize> {
     problem: Problem<'a>,
@@ -99,6 +100,7 @@ impl<'a, const D: usize> DueRows<'a, D> {
     }
 
     // All rows, level by level. Where those of each level begin.
+    // Kept: the levels stand whole, as in `Extent`.
     pub fn push_levels(&mut self, many: usize) -> [u16; LEVELS]
         requires none { self.old.row ≡ [] }
         requires asks { (x : ℕ) → x < total_of self.old.problem.owed.begin.now → at self.old.level.now (at self.old.problem.owed.due.now x / 2) < many }

@@ -7,7 +7,7 @@ ghost use Rattle.gates.specs.inner.Gates.{evaluated, Evaluable, Truths};
 ghost use Rattle.simulate.specs.inner.Plan.{signal, NoInput, Planned};
 
 use crate::circuit::Circuit;
-use gates::{GateList, IndexTable, evaluate, put_truths};
+use gates::{GateList, IndexTable, evaluate, truths};
 use graph::{EDGES, Items, NODES, column, evaluation_order};
 use rules::Kind;
 
@@ -85,13 +85,11 @@ pub fn plan_of(circuit: Circuit<'_>) -> Plan
     let wires = net.wires();
     let order = evaluation_order(wires, &net.count);
     let ins = wires.entering();
-    let mut truth = [0u16; NODES];
-    put_truths(&net.kind[..wires.nodes], &ins.begin, &mut truth);
     Plan {
         node: gates_of(&order, circuit),
         first: ins.begin,
         sees: signals_of(circuit, &ins.list),
-        truth,
+        truth: truths(&net.kind[..wires.nodes], &ins.begin),
         index: IndexTable::new(),
     }
 }

@@ -9,7 +9,7 @@ ghost use Rattle.starts.specs.inner.Ahead.{ahead, all_ahead, Leads, LeadsOn, Str
 
 use crate::shown::{CLOCKS, SLOTS};
 use crate::wiring::Wiring;
-use gates::{GateList, IndexTable, evaluate, value};
+use gates::{Gate, GateList, evaluate};
 use graph::{NODES, places_of};
 
 // So many clocks are taken in a row, and after so many the list is looked through again.
@@ -30,48 +30,41 @@ pub fn advance(slots: &mut [u16])
 }
 
 // 32 clocks of a gate of N inputs, which sees these slots in the first of them: its first value goes to `place`, each other a row further.
-fn clocks<const N: usize>(
-    truth: u16,
-    index: &IndexTable,
-    sees: &[u16],
-    place: usize,
-    ring: &mut [u8; SLOTS],
-)
-    requires inputs { (length sees.now ≡ N) × (N ≤ 8) }
-    requires ready { InputRows truth sees.now ring.old × AllBits ring.old × (place + 15872 < 32770) }
-    ensures { AllBits ring.new × ((kind : ℕ) → Reckons kind (length sees.now) truth → ring.new ≡ ahead kind sees.now place 32 ring.old) }
+fn clocks<const N: usize>(gate: Gate<'_>, place: usize, ring: &mut [u8; SLOTS])
+    requires inputs { (length gate.sees.now ≡ N) × (N ≤ 8) }
+    requires ready { InputRows gate.truth gate.sees.now ring.old × AllBits ring.old × (place + 15872 < 32770) }
+    ensures { AllBits ring.new × ((kind : ℕ) → Reckons kind (length gate.entry.sees.now) gate.entry.truth → ring.new ≡ ahead kind gate.entry.sees.now place 32 ring.old) }
 {
     let mut own = [0u16; N];
-    own.copy_from_slice(sees);
+    own.copy_from_slice(gate.sees);
     for j in 0..SPELL {
-        ring[place + j * NODES] = value(truth, index, &own, ring);
+        ring[place + j * NODES] = Gate { sees: &own, ..gate }.value(ring);
         advance(&mut own);
     }
 }
 
 // The same for any gate: it has 8 inputs at most. Where their number stands in the code, no loop over the inputs is left in the program, and a clock takes less
 // than half the time.
-fn gate_ahead(truth: u16, index: &IndexTable, sees: &[u16], place: usize, ring: &mut [u8; SLOTS])
-    requires { InputRows truth sees.now ring.old × AllBits ring.old × (place + 15872 < 32770) }
-    ensures { AllBits ring.new × ((kind : ℕ) → Reckons kind (length sees.now) truth → ring.new ≡ ahead kind sees.now place 32 ring.old) }
+fn gate_ahead(gate: Gate<'_>, place: usize, ring: &mut [u8; SLOTS])
+    requires { InputRows gate.truth gate.sees.now ring.old × AllBits ring.old × (place + 15872 < 32770) }
+    ensures { AllBits ring.new × ((kind : ℕ) → Reckons kind (length gate.entry.sees.now) gate.entry.truth → ring.new ≡ ahead kind gate.entry.sees.now place 32 ring.old) }
 {
     // Kept: the numbers of inputs one by one, since a const argument is written and not computed.
-    match sees.len() {
-        0 => clocks::<0>(truth, index, sees, place, ring),
-        1 => clocks::<1>(truth, index, sees, place, ring),
-        2 => clocks::<2>(truth, index, sees, place, ring),
-        3 => clocks::<3>(truth, index, sees, place, ring),
-        4 => clocks::<4>(truth, index, sees, place, ring),
-        5 => clocks::<5>(truth, index, sees, place, ring),
-        6 => clocks::<6>(truth, index, sees, place, ring),
-        7 => clocks::<7>(truth, index, sees, place, ring),
-        _ => clocks::<8>(truth, index, sees, place, ring),
+    match gate.sees.len() {
+        0 => clocks::<0>(gate, place, ring),
+        1 => clocks::<1>(gate, place, ring),
+        2 => clocks::<2>(gate, place, ring),
+        3 => clocks::<3>(gate, place, ring),
+        4 => clocks::<4>(gate, place, ring),
+        5 => clocks::<5>(gate, place, ring),
+        6 => clocks::<6>(gate, place, ring),
+        7 => clocks::<7>(gate, place, ring),
+        _ => clocks::<8>(gate, place, ring),
     }
 }
 
 // 32 clocks of the gates of the list, in turn: the first value of gate v goes to base + v.
-// Kept: the walk is that of `gates::evaluate`, two lines, with another step. A step that is handed in would write the ring that it captures, so that a shared walk
-// could promise no more than that the steps were taken in turn.
+// Kept: the walk is that of `gates::evaluate`, two lines, with another step: handed in as a closure the step alone is as long as this.
 fn evaluate_ahead(gates: GateList<'_>, base: usize, ring: &mut [u8; SLOTS])
     requires { Evaluable gates.node.now gates.truth.now gates.first.now gates.list.now (length gates.node.now) (base + 15872) ring.old }
     ensures { (kind : List ℕ) → Truths kind gates.entry.node.now gates.entry.truth.now gates.entry.first.now (length gates.entry.node.now)
@@ -79,11 +72,12 @@ fn evaluate_ahead(gates: GateList<'_>, base: usize, ring: &mut [u8; SLOTS])
 {
     for node in gates.node {
         let v = *node as usize;
-        gate_ahead(gates.truth[v], gates.index, gates.sees(v), base + v, ring);
+        gate_ahead(gates.gate(v), base + v, ring);
     }
 }
 
 // One clock of the list from clock s on, or 32.
+// Kept: a number and no enum, as in `stride`.
 pub fn take(gates: GateList<'_>, s: usize, clocks: usize, ring: &mut [u8; SLOTS])
     requires one { Evaluable gates.node.now gates.truth.now gates.first.now gates.list.now (length gates.node.now) (row s) ring.old }
     requires many { 1 < clocks → Evaluable gates.node.now gates.truth.now gates.first.now gates.list.now (length gates.node.now) (row s + 15872) ring.old }

@@ -9,6 +9,8 @@ use crate::ahead::SPELL;
 use graph::{Items, NODES};
 
 // Those of the nodes that are asked for at clock s, whose lag is below −s. They stay in their order.
+// Kept, here and in `refresh`, `place`, `turn` and `stride`: the list and the clock side by side, with what is asked of the list: in `follow` the clock goes on and the
+// list is looked through at times of their own, so a struct of the two would be made anew for each call. The slots beside them are lent for writing.
 pub fn asked(list: &[u16], lab: &[u32], s: usize) -> Items<NODES>
     requires { (length list.now ≤ 512) × (s < 32768) × All (λ v. v < length lab.now) list.now }
     ensures { Filtered (AskedAt lab.now s) list.now (length list.now) result (length result) }

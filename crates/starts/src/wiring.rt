@@ -6,11 +6,12 @@ ghost use Rattle.graph.specs.inner.Sort.{Sorts};
 ghost use Rattle.gates.specs.inner.Gates.{Reckons};
 ghost use Rattle.simulate.specs.inner.Ran.{Steppable};
 
-use gates::put_truths;
+use gates::truths;
 use graph::{EdgesByNode, NODES};
 use netlist::Netlist;
 
 // `ins` is found once for all clocks.
+// Kept: the facts of `simulate::Circuit` once more: it is private to its crate, and handed on it would be one field deeper in every law of `w.net`, no plainer.
 #[derive(Clone, Copy)]
 pub struct Wiring<'a> {
     pub net: &'a Netlist,
@@ -27,7 +28,5 @@ pub fn truths_of(net: &Netlist, ins: &EdgesByNode) -> [u16; NODES]
     requires { Steppable net.now × Sorts net.now.to net.now.edges net.now.nodes (replicate 1024 0) ins.now.list ins.now.begin }
     ensures { (v : ℕ) → v < net.now.nodes → Reckons (at net.now.kind v) (at ins.now.begin (suc v) - at ins.now.begin v) (at result v) }
 {
-    let mut truth = [0; NODES];
-    put_truths(&net.kind[..net.nodes as usize], &ins.begin, &mut truth);
-    truth
+    truths(&net.kind[..net.nodes as usize], &ins.begin)
 }

@@ -9,7 +9,7 @@ pub value-requires : goal.value-requires
 value-requires c =
     let a = c.args.cells.now in
     let v = c.loop-i.invariant.0 c.requires.choice c.requires.valued in
-    rw c.operands.ensures (valued_seen a.program.right v (omega (arith, c.requires.within, c.loop-i-test.true)) a.truth.now a.truths)
+    rw (c.gate.ensures.truth, c.gate.ensures.sees) (valued_seen a.program.right v (omega (arith, c.requires.within, c.loop-i-test.true)) a.truth.now a.truths)
 
 pub loop-i-preserved : goal.loop-i-preserved
 loop-i-preserved c =
@@ -18,7 +18,7 @@ loop-i-preserved c =
       λ n v.
           let w = l.invariant.0 n v in
           let q : l.i < length a.program.kind.now = omega (arith, c.requires.within, c.loop-i-test.true) in
-          valued_more a.program.right w q (valued_value a.program.right w q ((rw c.operands.ensures at c.value.ensures.1) (at a.program.kind.now l.i) (truth_next a.truth.now l.i a.program.right a.truths q))),
+          valued_more a.program.right w q (valued_value a.program.right w q ((rw (c.gate.ensures.truth, c.gate.ensures.sees) at c.value.ensures.1) (at a.program.kind.now l.i) (truth_next a.truth.now l.i a.program.right a.truths q))),
       omega arith,
     )
 

@@ -6,4 +6,4 @@ use Rattle.search.proofs.choices.evaluate.Given as goal
 
 -- Where `end` is not above `start`, i stays there.
 abbrev pub invariant-loop-i : goal.invariant-loop-i
-invariant-loop-i l = GoesOn l.program.bits (columns_of l.program) l.start l.initial.sig l.i l.sig × (l.i ≤ l.start + (l.end - l.start))
+invariant-loop-i l = GoesOn l.cells.program.bits (columns_of l.cells.program) l.start l.initial.sig l.i l.sig × (l.i ≤ l.start + (l.end - l.start))

@@ -17,11 +17,12 @@ loop-node-preserved c =
     let l = c.loop-node in
     let v = at n.node.now l.node-index in
     let g = c.gate_ahead in
+    let w = c.gate.ensures in
     let p = c.requires.placed l.node-index (omega arith) in
     let rows : (length a.ring.now ≡ 32770) × (length g.new.ring ≡ 32770) = (search rules, search rules) in (
       omega arith,
       g.ensures.0,
       λ kind t.
           all_next kind n.node.now n.first.now n.list.now a.base a.ring.now l.ring _ l.node-index (l.invariant.2 kind t)
-          (rw c.sees.ensures at (g.ensures.1 (at kind v) (rw (c.sees.ensures, part_length n.list.now (at n.first.now v) (at n.first.now (suc v)) p.in_list) (t l.node-index (omega arith))))),
+          (rw w.sees at (g.ensures.1 (at kind v) (rw (w.truth, w.sees, part_length n.list.now (at n.first.now v) (at n.first.now (suc v)) p.in_list) (t l.node-index (omega arith))))),
     )

@@ -1,15 +1,17 @@
 // A gate's truth word: bits 0 to 8 are its values, one for each number of ones among its inputs; from bit 9 up stands the seed that its inputs are
 // gathered behind, which picks a part of the index table: 0, where the number of ones decides. A selector has a value for each row of inputs, and the seed 32.
-// Required of `put_truths`: known gate kinds with at most 8 inputs, a selector with 3, which rule 5 makes sure of.
+// Required of `truths`: known gate kinds with at most 8 inputs, a selector with 3, which rule 5 makes sure of.
 ghost use Rattle.std.specs.Prelude.{◌≡◌, ℕ, suc, ◌+◌, ◌-◌, ◌<◌, ◌≤◌, length};
 ghost use Rattle.theory.specs.Gate.{gate_by};
 ghost use Rattle.graph.specs.Columns.{at};
 ghost use Rattle.rules.specs.Kinds.{number_of};
 ghost use Rattle.gates.specs.inner.Gates.{Reckons};
 
+use graph::column;
 use rules::Kind;
 
 // The value of a gate that has n inputs, of which k are 1.
+// Kept, here and in the two below: a kind and a number of inputs, from two columns; a struct of both would be filled for each gate and taken apart at once.
 fn gate_by(kind: Kind, n: u32, k: u32) -> u32
     requires { k ≤ n }
     ensures { result ≡ gate_by (number_of kind) n k }
@@ -56,14 +58,15 @@ fn truth_of(kind: Kind, n: u32) -> u16
 }
 
 // The truth words of a row of gates: gate i has `first[i + 1] - first[i]` inputs.
-pub fn put_truths(kind: &[u8], first: &[u16], truth: &mut [u16])
-    requires gates_in_bounds { (length kind.now < length first.now) × (length kind.now ≤ length truth.old) }
+// Kept: the kinds are the record's bytes, of which a `Kind` is made here, once for each gate.
+pub fn truths<const N: usize>(kind: &[u8], first: &[u16]) -> [u16; N]
+    requires gates_in_bounds { (length kind.now < length first.now) × (length kind.now ≤ N) }
     requires by_index { (i : ℕ) → i < length kind.now → (at kind.now i < 11) × (at first.now i ≤ at first.now (suc i)) × (at first.now (suc i) ≤ at first.now i + 8)
         × (at kind.now i ≡ 10 → at first.now (suc i) ≡ at first.now i + 3) }
-    ensures { (i : ℕ) → i < length kind.now → Reckons (at kind.now i) (at first.now (suc i) - at first.now i) (at truth.new i) }
+    ensures { (i : ℕ) → i < length kind.now → Reckons (at kind.now i) (at first.now (suc i) - at first.now i) (at result i) }
 {
-    for (i, kind) in kind.iter().enumerate() {
-        let gate = Kind::try_from(*kind).unwrap();
-        truth[i] = truth_of(gate, u32::from(first[i + 1] - first[i]));
-    }
+    column(kind.len(), 0, |i| {
+        let gate = Kind::try_from(kind[i]).unwrap();
+        truth_of(gate, u32::from(first[i + 1] - first[i]))
+    })
 }

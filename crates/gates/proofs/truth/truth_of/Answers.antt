@@ -1,11 +1,11 @@
--- `gates::truths::truth_of` meets its contract: a selector has its own word.
+-- `gates::truth::truth_of` meets its contract: a selector has its own word.
 use Rattle.std.proofs.Common.{refl, sym, ap}
 use mathlib.Core.Path.{subst₂}
 use lib.Count.{ones, ones_in}
 use Rattle.rules.specs.Kinds.{number_of}
 use Rattle.gates.specs.inner.Gates.{word_from, picked, Reckons}
 use Rattle.gates.proofs.Reckons.{selector_works}
-use Rattle.gates.proofs.truths.truth_of.Goals as goal
+use Rattle.gates.proofs.truth.truth_of.Goals as goal
 
 -- The eight rows, by computing.
 pub returns-in-Selector : goal.returns-in-Selector

@@ -1,8 +1,8 @@
--- `gates::truths::counted` meets its contract: the bits below k are the gate's values.
+-- `gates::truth::counted` meets its contract: the bits below k are the gate's values.
 use Rattle.theory.specs.Gate.{gate_by}
 use Rattle.rules.specs.Kinds.{number_of}
 use Rattle.gates.proofs.Spelt.{Spelt}
-use Rattle.gates.proofs.truths.counted.Given as goal
+use Rattle.gates.proofs.truth.counted.Given as goal
 
 abbrev pub invariant-loop-k : goal.invariant-loop-k
 invariant-loop-k l = Spelt (gate_by (number_of l.kind) l.n) l.k l.word

@@ -1,11 +1,11 @@
--- `gates::truths::counted` meets its contract: the bits below k are the gate's values.
+-- `gates::truth::counted` meets its contract: the bits below k are the gate's values.
 use Rattle.std.proofs.Common.{◌≡◌, ◌+◌, arith, subst}
 use Rattle.theory.specs.Gate.{gate_by}
 use Rattle.rules.specs.Kinds.{number_of}
 use Rattle.theory.proofs.clocks.Gate.{by_bit}
 use Rattle.gates.proofs.Spelt.{Spelt, spelt_more}
 use Rattle.gates.proofs.Reckons.{works}
-use Rattle.gates.proofs.truths.counted.Goals as goal
+use Rattle.gates.proofs.truth.counted.Goals as goal
 
 pub loop-k-preserved : goal.loop-k-preserved
 loop-k-preserved c =
