@@ -21,9 +21,11 @@ use search::{
 };
 
 // A list has at most so many bits.
+// Kept: moves' `MOST_CHOSEN`, since neither crate lies below the other.
 const FILLINGS: usize = 24;
 
 // The search in columns for at most so many cells, operands and dues: short columns are quickly cleared.
+// Kept: that there is room is asked for here and at `Numbers::new`, `renumber` and `spans`: it ties a program to a size that the caller names, and only `Numbers` has both.
 fn solve_in<const CELLS: usize, const FIRSTS: usize, const OPERANDS: usize, const DUES: usize>(
     problem: Problem<'_>,
 ) -> Option<u32>

@@ -4,11 +4,11 @@ ghost use Rattle.std.specs.Prelude.{◌≤◌, length};
 ghost use Rattle.solve.specs.inner.Numbers.{layers_of, Layered, Numbered};
 
 use graph::Items;
-use search::{BITS, LEVELS, Program};
+use search::{BITS, CELLS, LEVELS, Program};
 
 // A cell without a number.
 // Kept: a number and no Option: in the end every cell has one, and `renumber` reads the column as numbers; Options would first be copied into a second column.
-const NONE: u16 = 12288;
+const NONE: u16 = CELLS as u16;
 
 // The numbers that are given so far: to all cells of levels below `level` and some of this one.
 #[derive(Drop)]
@@ -22,6 +22,7 @@ pub struct Numbers<'a, 'b, const CELLS: usize> {
     // Each number's cell: as many as there are numbers.
     pub code: Items<CELLS>,
     // The cells that wait for their numbers, each needed by the one below it.
+    // Kept: an array, whose height `number_cell` counts: `Items` only grows; with `pop` the law of the stack would be of a list that is cut, and not of places that stay.
     stack: [u16; CELLS],
     ghost few: { CELLS ≤ 12288 },
     ghost layered: { Layered (layers_of (length program.kind.now) program.first.now program.operand.now span.now) },
@@ -36,6 +37,7 @@ impl<'a, 'b, const CELLS: usize> Numbers<'a, 'b, CELLS> {
     ghost use Rattle.solve.specs.inner.Numbering.{layers, Further};
 
     // No number yet.
+    // Kept: the room is asked for, as at `solve_in`.
     pub fn new(program: Program<'a>, span: &'b [u16]) -> Self
         requires { (length program.kind.now ≤ CELLS) × (CELLS ≤ 12288) × Layered (layers_of (length program.kind.now) program.first.now program.operand.now span.now) }
         ensures { (result.program ≡ program.entry) × (result.span ≡ span.entry) × (result.level ≡ 0) × (result.code ≡ []) }
@@ -103,12 +105,12 @@ impl<'a, 'b, const CELLS: usize> Numbers<'a, 'b, CELLS> {
         }
     }
 
-    // All cells of this level: those of which something is due first, in the order of the dues. Then it is the next level's turn.
-    fn number_level(&mut self, due: &[u16])
-        requires level { self.old.level ≤ 24 }
+    // All cells of level m, whose turn it is: those of which something is due first, in the order of the dues. Then it is the turn of the next level.
+    fn number_level(&mut self, m: u16, due: &[u16])
+        requires level { (self.old.level ≡ m) × (m ≤ 24) }
         requires due { (x : ℕ) → x < length due.now → at due.now x / 2 < length self.old.program.kind.now }
-        ensures further { Further self.old self.new × (self.new.level ≡ self.old.level + 1) }
-        ensures low { (q : ℕ) → q < length self.new.code → at self.new.span.now (at self.new.code q) ≤ self.old.level }
+        ensures further { Further self.old self.new × (self.new.level ≡ m + 1) }
+        ensures low { (q : ℕ) → q < length self.new.code → at self.new.span.now (at self.new.code q) ≤ m }
     {
         for x in due {
             self.number_if((*x / 2) as usize);
@@ -116,7 +118,7 @@ impl<'a, 'b, const CELLS: usize> Numbers<'a, 'b, CELLS> {
         for i in 0..self.program.kind.len() {
             self.number_if(i);
         }
-        self.level += 1;
+        self.level = m + 1;
     }
 
     // All cells, level by level. Where each level begins.
@@ -130,7 +132,7 @@ impl<'a, 'b, const CELLS: usize> Numbers<'a, 'b, CELLS> {
         let last = self.program.bits as usize + 1;
         for m in 0..last {
             levels[m] = self.code.len() as u16;
-            self.number_level(due);
+            self.number_level(m as u16, due);
         }
         levels[last] = self.code.len() as u16;
         levels

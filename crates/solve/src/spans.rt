@@ -32,6 +32,7 @@ fn span_of(operands: &[u16], span: &[u16]) -> u16
 }
 
 // How many each cell depends on, by its operands, which come before it.
+// Kept: the room is asked for, as at `solve_in`.
 pub fn spans<const CELLS: usize>(program: Program<'_>) -> [u16; CELLS]
     requires { length program.kind.now ≤ CELLS }
     ensures { Spans program.entry.bits program.entry.first.now program.entry.operand.now result (length program.entry.kind.now) }
