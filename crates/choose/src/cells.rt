@@ -110,8 +110,8 @@ impl<'a> Numbering<'a> {
     }
 
     // All cells, one after the other: the kind of a cell is that of its node, and its operands are the edges that enter this, in the order of the edges.
-    // Kept: a loop beside solve's `renumber`: one function would take what becomes of an operand as a closure, and its law would be the union of `Appended` and
-    // `ProgramRenumbered`, no plainer.
+    // Kept: a loop, as `put_operands` above, beside the two of solve's `renumber`: one function for both would take what becomes of an operand as a closure, and its
+    // law would be the union of `Appended` and `ProgramRenumbered`, no plainer.
     pub fn wire(&self, to: &mut Columns<CELLS, FIRSTS, OPERANDS>)
         requires { Placed self.now.task.now.of.net.now self.now.task.now.of.lab.now self.now.task.now.counts.now self.now.task.now.clocks self.now.id self.now.code }
         ensures { Wires self.now.task.now.of.net.now self.now.task.now.counts.now self.now.task.now.base.now self.now.id self.now.code to.new.kind to.new.first to.new.operand }

@@ -34,7 +34,7 @@ fn put_operands(operands: &[u16], id: &[u16], operand: &mut [u16])
 }
 
 // The cells in the order of their new numbers.
-// Kept: a loop, as `put_operands` above, beside the two of choose's `Numbering`: one function for both would take what becomes of an operand as a closure, and its
+// Kept: a loop, as `put_operands` above, beside the two of choose's `wire`: one function for both would take what becomes of an operand as a closure, and its
 // law would be the union of `Appended` and `ProgramRenumbered`, no plainer. And the room is asked for, as at `solve_in`.
 pub fn renumber<const CELLS: usize, const FIRSTS: usize, const OPERANDS: usize>(
     program: Program<'_>,
