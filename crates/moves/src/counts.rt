@@ -45,6 +45,7 @@ impl<'a> Move<'a> {
     }
 
     // How many values are chosen on the edges before each edge, and at the end on all.
+    // Kept: the counts stand whole beside the move, as columns do in graph `Wires`: they are made of it, and whether they are too large is asked in between.
     #[tactic(auto, using(crate::proofs::Labels::low_edge, crate::proofs::Labels::from_node, crate::proofs::Labels::to_node))]
     pub fn chosen(self, counts: &[u32]) -> [u32; EDGES + 1]
         requires { Counts self.net.now self.lab.now counts.now × (self.net.now.edges ≤ length counts.now) }
