@@ -8,7 +8,6 @@ pub mod Programs
 pub mod Compiles
 -- The columns that `cells` and `dues` fill are that program and what is due of it, and a right one.
 pub mod Runs
-pub mod Owing
 pub mod Columns
 pub mod Widths
 pub mod Right

@@ -1,6 +1,5 @@
 -- The cells, numbered one by one.
 --   cut_lags, lags_cut  no lag of the labels of the nodes, cut out of a longer list, is above so many clocks: to there and back
---   numbered_none       no cell yet
 --   numbered_miss, numbered_hit    one place further: without a cell, with a cell
 --   numbered_clock      a clock is done
 use Prim.Native.Nat.{ℕ, ◌+◌, ◌*◌, ◌≤◌, ◌<◌}
@@ -30,15 +29,6 @@ module _ {lab : List ℕ} {nodes : ℕ} (h : nodes ≤ length lab) where
   lags_cut s = record { few = s.few; low = λ v l. omega (arith, lag_cut lab nodes v l, s.low v (rw (length-take-le nodes lab h) l)) }
 
 module _ (lag : ℕ → ℕ) (order : List ℕ) where
-  pub numbered_none : (id code : List ℕ) → length id ≡ 16384 → length code ≡ 0 → CellsNumbered lag order 0 0 id code
-  numbered_none id code a b = record {
-    few = omega arith;
-    id_rows = a;
-    inside = λ v s h l w. absurd (⊎_elim (λ (k : s < 0). let z : ⊥ = omega arith in z) (λ (k : (s ≡ 0) × Stands order 0 v). let z : ⊥ = omega (arith, k.1.within) in z) w);
-    back = λ v s h l w. absurd (⊎_elim (λ (k : s < 0). let z : ⊥ = omega arith in z) (λ (k : (s ≡ 0) × Stands order 0 v). let z : ⊥ = omega (arith, k.1.within) in z) w);
-    each = λ i h. absurd (let z : ⊥ = omega arith in z);
-  }
-
   stands_more : (p q v : ℕ) → p ≤ q → Stands order p v → Stands order q v
   stands_more p q v h s = record { place = s.place; within = omega (arith, s.within); holds = s.holds }
 

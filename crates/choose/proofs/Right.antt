@@ -49,7 +49,6 @@ use Rattle.choose.specs.inner.Wires.{Placed, Chooses, Standing}
 use Rattle.moves.proofs.Labels.{from_node, low_nodes, low_edges}
 use Rattle.netlist.proofs.Lowest.{kind_low, fan_low, fan_three}
 use Rattle.choose.proofs.Arranged.{ordered_arranged}
-use Rattle.choose.proofs.Owing.{owes_cells}
 use Rattle.choose.proofs.Columns.{celled, compiled}
 use Rattle.choose.proofs.Compiles.{compiled_holds, solved}
 use Rattle.choose.proofs.Widths.{few_operands}
@@ -192,7 +191,7 @@ module _ {net : Netlist} {lab counts base : List ℕ} {k clocks : ℕ} (s : Labe
           (rw p.whole (omega (arith, g.begins net.nodes (omega arith), sorted_room net.to net.edges net.nodes)))
 
       module _ {first operand due starts : List ℕ}
-          (os : Operands net.from ins begin counts base id code (length code) first operand) (owes : Owes 12288 due starts (rows_of starts))
+          (os : Operands net.from ins begin counts base id code (length code) first operand) (owes : (n : ℕ) → Celled (lag_at lab) net.nodes n id → Owes n due starts (rows_of starts))
           (ds : Dues net (lag_at lab) (cell_at id) due (total_of starts))
           (first_rows : length first ≡ 12289) (operand_rows : length operand ≡ 24576) where
         -- Where the operands of cell i begin and end.
@@ -249,7 +248,7 @@ module _ {net : Netlist} {lab counts base : List ℕ} {k clocks : ℕ} (s : Labe
             let cut : length (take (length code) kind) ≡ length code = length-take-le (length code) kind (omega (arith, few_cells)) in
             record {
               right = right kind (omega (arith, few_cells)) ks f;
-              owes = owes_cells net (lag_at lab) id due starts (length code) 12288 okay (from_node net lab s) owes ds;
+              owes = owes (length code) okay;
               holds = holds (take (length code) kind) (omega arith) (λ i h. get_or-take (length code) kind i 0 h ∙ ks i h) f;
             }
 

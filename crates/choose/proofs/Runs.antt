@@ -1,9 +1,9 @@
 -- Dues one by one: runs of clocks, and in a run edge by edge.
---   rows_more           one run further: how many rows there are
 --   few_pushed          of one edge no more is put than the run has clocks
 --   run_ends            a run of clocks ends
 --   run_room            the room that one more edge takes
 --   dues_more           one edge further
+--   dues_all            all runs are put
 use Prim.Native.Nat.{ℕ, suc, ◌+◌, ◌*◌, ◌-◌, ◌≤◌, ◌<◌, min}
 use native.Mathlib.Omega.{arith}
 use native.Mathlib.Nat.{suc-mul, mul-le-mul_right}
@@ -14,20 +14,10 @@ use mathlib.Core.List.{List, [], ◌∷◌, ◌++◌}
 use lib.ListN.{length, length-append, get_or-append}
 use lib.Seq.{get_or_at}
 use Rattle.graph.specs.Columns.{at, bit}
-use Rattle.graph.specs.inner.Sort.{Stands}
+use Rattle.graph.specs.inner.Sort.{Stands, EachEdge}
 use Rattle.netlist.specs.declared.Netlist.{Netlist}
-use Rattle.search.specs.inner.Program.{rows_of}
-use Rattle.choose.specs.inner.Dues.{cell_at, Carry, due_of, Owed, due_at, Pushed, DuesTo, FewRows}
-
-pub rows_more : (low high rows edges more : ℕ) → low < 24 → edges ≤ 1024 → high ≡ min (2 * low + 1) 24 → more ≤ rows + edges → FewRows low rows → FewRows high more
-rows_more low high rows edges more h few q up r = record {
-  at_0 = λ l. absurd (let z : ⊥ = omega arith in z);
-  to_1 = λ l. omega (arith, r.at_0 (omega arith));
-  to_3 = λ l. omega (arith, r.to_1 (omega arith));
-  to_7 = λ l. omega (arith, r.to_3 (omega arith));
-  to_15 = λ l. omega (arith, r.to_7 (omega arith));
-  to_24 = omega (arith, r.to_15 h);
-}
+use Rattle.search.specs.inner.Program.{rows_of, total_of}
+use Rattle.choose.specs.inner.Dues.{cell_at, Carry, due_of, Owed, Dues, due_at, Pushed, DuesTo}
 
 -- Of one edge no more is put than the run has clocks.
 pub few_pushed : (w l low high n r : ℕ) → low ≤ high → r ≡ n + (min w (w + high - l) - (w + low - l)) → r + low ≤ n + high
@@ -152,3 +142,15 @@ module _ (net : Netlist) (lag : ℕ → ℕ) (id along : List ℕ) where
     pub dues_more : (length due' ≤ length due → DuesTo net lag id along low high (n + 1) due' begin)
         × (length due < length due' → DuesTo net lag id along low high (n + 1) due' (begin ++ length due' ∷ []))
     dues_more = (no_row, row_more)
+
+-- All runs are put, up to the largest lag.
+module _ (net : Netlist) (lag : ℕ → ℕ) (id along due begin : List ℕ) (low : ℕ) (d : DuesTo net lag id along low low 0 due begin) where
+  pub dues_all : EachEdge along net.edges → ((e : ℕ) → e < net.edges → lag (at net.from e) ≤ low) → Dues net lag (cell_at id) due (total_of begin)
+  dues_all whole top =
+      rw d.last (record {
+        sound = d.sound;
+        complete = λ e s t c.
+            let p = whole.every_edge e c.edge in
+            let h : t < low = omega (arith, c.old, c.clock, top e c.edge) in
+            subst (λ f. Carry net lag f s t → Stands due (length due) (due_of net (cell_at id) f s t)) p.holds (d.complete p.place s t p.within h (λ x. h)) c;
+      })

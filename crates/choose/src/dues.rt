@@ -129,7 +129,7 @@ impl Rows {
     pub fn put(&mut self, of: &Numbering<'_>)
         requires none { (self.old.due ≡ []) × (self.old.begin ≡ 0 ∷ []) }
         requires celled { Celled (lag_at of.now.task.now.of.lab.now) of.now.task.now.of.net.now.nodes 12288 of.now.id }
-        ensures owes { Owes 12288 self.new.due self.new.begin (rows_of self.new.begin) }
+        ensures owes { (cells : ℕ) → Celled (lag_at of.now.task.now.of.lab.now) of.now.task.now.of.net.now.nodes cells of.now.id → Owes cells self.new.due self.new.begin (rows_of self.new.begin) }
         ensures dues { Dues of.now.task.now.of.net.now (lag_at of.now.task.now.of.lab.now) (cell_at of.now.id) self.new.due (total_of self.new.begin) }
     {
         let task = of.task;

@@ -1,10 +1,7 @@
 -- `choose::cells::Numbering::number_cells` meets its contract: the cells of one clock more are numbered.
-use Rattle.std.proofs.Common.{refl, ◌∙◌}
-use Rattle.choose.proofs.Numbers.{numbered_none, numbered_clock}
+use Rattle.std.proofs.Common.{◌∙◌}
+use Rattle.choose.proofs.Numbers.{numbered_clock}
 use Rattle.choose.proofs.cells.Numbering.number_cells.Goals as goal
-
-pub loop-t-init : goal.loop-t-init
-loop-t-init c = (refl, refl, numbered_none _ _ _ _ c.requires.none.0 c.requires.none.1)
 
 pub loop-t-preserved : goal.loop-t-preserved
 loop-t-preserved c =

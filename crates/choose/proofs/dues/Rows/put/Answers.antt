@@ -1,23 +1,12 @@
 -- `choose::dues::Rows::put` meets its contract: the dues of all clocks below `low` are put.
-use Rattle.std.proofs.Common.{◌≡◌, ◌<◌, ◌≤◌, ℕ, List, length, take, arith, rules, sym, ◌∙◌}
+use Rattle.std.proofs.Common.{◌≡◌, ◌<◌, ◌≤◌, ℕ, List, length, take, arith, rules, ◌∙◌}
 use Rattle.std.proofs.lemmas.List.{length-take-le, get_or-take}
 use Rattle.graph.specs.Columns.{at}
 use Rattle.graph.specs.inner.Sort.{EachEdge}
-use Rattle.graph.specs.declared.wires.Wires.{Wires}
-use Rattle.moves.proofs.Labels.{from_node, low_edges}
+use Rattle.moves.proofs.Labels.{from_node}
 use Rattle.choose.specs.inner.Numbers.{lag_at}
-use Rattle.choose.proofs.Runs.{rows_more}
-use Rattle.choose.proofs.Owing.{dues_all, owes_all}
+use Rattle.choose.proofs.Runs.{dues_all}
 use Rattle.choose.proofs.dues.Rows.put.Goals as goal
-
--- The edges are as many as the places of the column of their sources, and their sources are nodes.
-ends : (w : Wires) {nodes : ℕ} → nodes ≡ w.nodes
-    → (length (take w.edges w.from.now) ≤ 1024) × ((e : ℕ) → e < length (take w.edges w.from.now) → at (take w.edges w.from.now) e < nodes)
-ends w q =
-    let many : length (take w.edges w.from.now) ≡ w.edges = length-take-le w.edges w.from.now w.laid.from_rows in (
-      omega (arith, many, w.laid.edges_fit),
-      λ e h. let l : e < w.edges = omega (arith, many) in omega (arith, get_or-take w.edges w.from.now e 0 l, w.laid.from_in e l),
-    )
 
 -- A list of each edge, cut to so many places.
 module _ {edges n : ℕ} (along : List ℕ) (q : n ≡ edges) (rows : edges ≤ length along) (each : EachEdge along n) where
@@ -35,28 +24,11 @@ module _ {edges n : ℕ} (along : List ℕ) (q : n ≡ edges) (rows : edges ≤ 
         record { place = s.place; within = omega (arith, cut_length); holds = get_or-take edges along s.place 0 l ∙ s.holds };
   }
 
-pub edges_along-along-requires-clause-edges_bound : goal.edges_along-along-requires-clause-edges_bound
-edges_along-along-requires-clause-edges_bound c = ends c.wires-wires.result (c.args.of.now.whole ∙ sym c.wires-wires.ensures.nodes)
-
 pub put_run-requires-clause-along : goal.put_run-requires-clause-along
 put_run-requires-clause-along c =
     let w = c.wires-wires in
     let n = length-take-le w.result.edges w.result.from.now w.result.laid.from_rows in
     (cut c.edges_along-along.result n (search rules) c.edges_along-along.ensures, cut_length c.edges_along-along.result n (search rules) c.edges_along-along.ensures ∙ w.ensures.edges)
-
-pub loop-low-preserved : goal.loop-low-preserved
-loop-low-preserved c =
-    let l = c.loop-low in
-    let r = c.put_run.ensures in
-    let low : l.low < 24 = omega (arith, c.args.of.now.task.now.known.low.few) in
-    let high = c.min-high.ensures in
-    (omega (arith, low, high), rows_more _ _ _ _ _ low (low_edges _ _ c.args.of.now.task.now.of.labelled) high r.upper_bound l.invariant.1, r.dues_to_2)
-
-pub returns-clause-owes : goal.returns-clause-owes
-returns-clause-owes c =
-    let a = c.args in
-    let l = c.loop-low in
-    owes_all a.of.now.task.now.of.net.now (lag_at a.of.now.task.now.of.lab.now) a.of.now.id _ l.self.due l.self.begin l.low l.invariant.2 12288 c.requires.celled (from_node _ _ a.of.now.task.now.of.labelled) l.invariant.0
 
 pub returns-clause-dues : goal.returns-clause-dues
 returns-clause-dues c =

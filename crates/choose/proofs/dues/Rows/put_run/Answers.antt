@@ -15,9 +15,6 @@ use Rattle.choose.proofs.dues.Rows.put_run.Goals.{then-before-after, else-before
 edge : {net : Netlist} {lab along : List ℕ} {p : ℕ} → Labelled net lab → EachEdge along (length along) × (length along ≡ net.edges) → p < length along → (at along p < net.edges) × (p < 1024)
 edge s a h = (omega (arith, a.0.edges_only _ h, a.1), omega (arith, a.1, low_edges _ _ s))
 
-pub of-requires : goal.of-requires
-of-requires c = (edge c.args.of.now.task.now.of.labelled c.requires.along c.loop-e-test.true).0
-
 pub append_dues-requires-clause-room : goal.append_dues-requires-clause-room
 append_dues-requires-clause-room c =
     let few = (edge c.args.of.now.task.now.of.labelled c.requires.along c.loop-e-test.true).1 in
