@@ -2,19 +2,18 @@
 --   bits_set            a bit put among bits
 --   seen_bits, part_rows, placed_seen    what a gate sees is bits, and in place
 --   evaluated_more, evaluated_length, evaluated_bits    one gate more; as many signals; bits
---   evaluable_cut, truths_cut, evaluated_cut, cut_length    the first gates of a longer list, as a list of their own
 use Prim.Native.Nat.{ℕ, zero, suc, ◌+◌, ◌-◌, ◌<◌, ◌≤◌}
 use native.Mathlib.Omega.{arith}
 use native.Mathlib.Numerals.{add-one}
 use native.Mathlib.Decide.{ℕ_discrete, dec_lt}
-use mathlib.Core.Path.{◌≡◌, refl, sym, ap, ap₂, ◌∙◌, subst}
+use mathlib.Core.Path.{◌≡◌, refl, sym, ap, subst}
 use mathlib.Core.List.{List, map}
 use lib.ListN.{length, set, length-set}
 use lib.Seq.{get_or-set_same, get_or-set_other, set_out}
 use Rattle.theory.specs.Gate.{gate}
 use Rattle.theory.proofs.clocks.Gate.{gate_bit}
 use Rattle.graph.specs.Columns.{at}
-use Rattle.gates.specs.inner.Gates.{part, AllBits, Narrow, Reckons, InputRows, evaluated, GateRows, Evaluable, Truths}
+use Rattle.gates.specs.inner.Gates.{part, AllBits, Narrow, InputRows, evaluated, GateRows}
 use Rattle.gates.proofs.Words.{part_length, part_at, bits_map}
 
 pub bits_set : (sig : List ℕ) (i x : ℕ) → x ≤ 1 → AllBits sig → AllBits (set sig i x)
@@ -66,36 +65,3 @@ module _ (kind node first list : List ℕ) (base : ℕ) (sig : List ℕ) where
       let v = at node n in
       let l = map (at before) (part list (at first v) (at first (suc v))) in
       bits_set before (base + v) (gate (at kind v) l) (gate_bit (at kind v) l) (evaluated_bits n b)
-
--- ── The first gates of a longer list ────────────────────────────────────────────────────────
-
-cut_at : (node : List ℕ) (n i : ℕ) → i < n → at (part node 0 n) i ≡ at node i
-cut_at node n i h = part_at node 0 n i (omega arith) ∙ ap (at node) (let z : 0 + i ≡ i = omega arith in z)
-
-pub cut_length : (node : List ℕ) (n : ℕ) → n ≤ length node → length (part node 0 n) ≡ n
-cut_length node n h = omega (arith, part_length node 0 n h)
-
-pub evaluable_cut : (node truth first list : List ℕ) (n base : ℕ) (sig : List ℕ) → Evaluable node truth first list n base sig
-    → Evaluable (part node 0 n) truth first list (length (part node 0 n)) base sig
-evaluable_cut node truth first list n base sig e =
-    let c = cut_length node n e.in_node in record {
-      in_node = omega arith;
-      placed = λ i h. let l : i < n = omega arith in subst (GateRows truth first list base (length sig)) (sym (cut_at node n i l)) (e.placed i l);
-      bits = e.bits;
-    }
-
-pub truths_cut : (kind node truth first : List ℕ) (n : ℕ) → n ≤ length node → Truths kind node truth first n → Truths kind (part node 0 n) truth first (length (part node 0 n))
-truths_cut kind node truth first n h t i k =
-    let c = cut_length node n h in
-    let l : i < n = omega arith in
-    subst (λ v. Reckons (at kind v) (at first (suc v) - at first v) (at truth v)) (sym (cut_at node n i l)) (t i l)
-
-module _ (kind node first list : List ℕ) (base : ℕ) (sig : List ℕ) (n : ℕ) where
-  cut_to : (m : ℕ) → m ≤ n → evaluated kind (part node 0 n) first list base m sig ≡ evaluated kind node first list base m sig
-  unfolding evaluated
-  cut_to zero h = refl
-  cut_to (suc m) h =
-      ap₂ (λ before v. set before (base + v) (gate (at kind v) (map (at before) (part list (at first v) (at first (suc v)))))) (cut_to m (omega arith)) (cut_at node n m (omega arith))
-
-  pub evaluated_cut : n ≤ length node → evaluated kind (part node 0 n) first list base (length (part node 0 n)) sig ≡ evaluated kind node first list base n sig
-  evaluated_cut h = ap (λ m. evaluated kind (part node 0 n) first list base m sig) (cut_length node n h) ∙ cut_to n (omega arith)

@@ -1,5 +1,5 @@
 -- Bits gathered in a word.
---   part_none, part_length, part_at    a part of a list: of no place, how long, what stands there
+--   part_length, part_at    a part of a list: how long, what stands there
 --   bits_map            what a part of a list of bits shows is bits
 --   word_more, word_wider    how large the gathered word is: with one bit more, at the end
 --   word_below          so large at most
@@ -9,11 +9,11 @@
 use Prim.Native.Nat.{ℕ, zero, suc, ◌+◌, ◌-◌, ◌*◌, ◌^◌, ◌/◌, ◌<◌, ◌≤◌}
 use native.Mathlib.Omega.{arith}
 use native.Mathlib.Nat.{pow-suc, mul_assoc, mul_comm, mul-le-mul_left, mul-le-mul_right}
-use mathlib.Core.Path.{◌≡◌, refl, ap, subst}
+use mathlib.Core.Path.{◌≡◌, refl, subst}
 use mathlib.Core.List.{List, [], ◌∷◌, map}
 use lib.Count.{ones, ones_cat}
 use lib.Pow.{pow_mono}
-use lib.ListN.{length, take, drop, length-take, length-drop}
+use lib.ListN.{length, length-take, length-drop}
 use lib.Seq.{get_or-take, get_or-drop}
 use Rattle.theory.specs.Gate.{ones as total}
 use Rattle.graph.specs.Columns.{at}
@@ -22,9 +22,6 @@ use Rattle.gates.specs.inner.Gates.{part, AllBits, word_from, Narrow}
 -- ── Parts of a list ─────────────────────────────────────────────────────────────────────────
 
 module _ (list : List ℕ) where
-  pub part_none : (hi : ℕ) → part list hi hi ≡ []
-  part_none hi = ap (λ n. take n (drop hi list)) (let z : hi - hi ≡ 0 = omega arith in z)
-
   pub part_length : (lo hi : ℕ) → hi ≤ length list → length (part list lo hi) ≡ hi - lo
   part_length lo hi h = simp (length-take, length-drop) (omega arith)
 

@@ -12,5 +12,3 @@ pub mod Lists
 pub mod States
 -- From rows back to what is due.
 pub mod Solved
--- A program and its dues in whole columns, and cut.
-pub mod Cut
