@@ -2,7 +2,6 @@
 // Retiming comes here with the labels of the least retiming.
 ghost use Rattle.std.specs.Prelude.{◌≡◌, ℕ, ◌+◌, ◌≤◌, ◌<◌, min, length};
 ghost use Rattle.graph.specs.Columns.{at};
-ghost use Rattle.simulate.specs.inner.Ran.{Steppable};
 ghost use Rattle.moves.specs.inner.Labels.{Labelled, Counts, Wide, Bases};
 ghost use Rattle.moves.specs.inner.Columns.{Filled, none};
 
@@ -19,12 +18,11 @@ fn new_count(count: u8, from: u32, to: u32) -> u32
     u32::from(count) + to - from
 }
 
-// A netlist that keeps the rules and the labels of a legal retiming of it.
+// A netlist and the labels of a legal retiming of it.
 #[derive(Clone, Copy)]
 pub struct Move<'a> {
     pub net: &'a Netlist,
     pub lab: &'a [u32],
-    pub ghost steppable: { Steppable net.now },
     pub ghost labelled: { Labelled net.now lab.now },
 }
 

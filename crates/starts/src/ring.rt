@@ -6,6 +6,7 @@
 // Private to the crate: `moved` comes here with the labels of a legal retiming of a netlist that passed the rules.
 ghost use Rattle.std.specs.Prelude.{ℕ, ◌+◌, ◌<◌, ◌≤◌, length};
 ghost use Rattle.graph.specs.Columns.{at};
+ghost use Rattle.simulate.specs.inner.Ran.{Steppable};
 ghost use Rattle.starts.specs.inner.Ring.{Followed, NothingYet};
 
 use crate::BIAS;
@@ -37,8 +38,10 @@ fn clocks_asked(lab: &[u32]) -> usize
 }
 
 // The ring after so many clocks, which are all that are asked for.
+// Kept, here, below and in src/wiring.rt: that the netlist can be stepped is a clause and no fact of `Move`: its counts, and a quote, are made of less, and a type may not
+// ask more of those who make one than was asked before.
 fn follow(from: Move<'_>, clocks: usize) -> [u8; SLOTS]
-    requires { (clocks ≤ 16384) × ((v : ℕ) → v < from.net.now.nodes → 16384 ≤ clocks + at from.lab.now v) }
+    requires { Steppable from.net.now × (clocks ≤ 16384) × ((v : ℕ) → v < from.net.now.nodes → 16384 ≤ clocks + at from.lab.now v) }
     ensures { Followed from.entry.net.now from.entry.lab.now result }
 {
     let net = from.net;
@@ -75,6 +78,7 @@ fn follow(from: Move<'_>, clocks: usize) -> [u8; SLOTS]
 
 // The ring after all clocks that are asked for.
 pub fn ring_of(from: Move<'_>) -> [u8; SLOTS]
+    requires { Steppable from.net.now }
     ensures { Followed from.entry.net.now from.entry.lab.now result }
 {
     let clocks = clocks_asked(&from.lab[..from.net.nodes as usize]);
