@@ -1,4 +1,5 @@
 // What start values are chosen for.
+ghost use Rattle.simulate.specs.inner.Ran.{Steppable};
 ghost use Rattle.choose.specs.inner.Task.{Known};
 
 use moves::Move;
@@ -12,5 +13,6 @@ pub struct Task<'a> {
     pub base: &'a [u32],
     pub k: u32,
     pub clocks: u32,
+    pub ghost steppable: { Steppable of.net.now },
     pub ghost known: { Known of.net.now of.lab.now counts.now base.now k clocks },
 }

@@ -4,7 +4,6 @@
 mod counts;
 mod halving;
 
-ghost use Rattle.simulate.specs.inner.Ran.{Steppable};
 ghost use Rattle.lags.specs.inner.Lags.{Sure};
 ghost use Rattle.quote.specs.Quote.{QuoteOf};
 ghost use Rattle.quote.specs.inner.Quoted.{QuoteOfNet};
@@ -26,7 +25,7 @@ pub struct Quoted {
 // A netlist that was read: 8, or the numbers of the least retiming at the smallest period that is met.
 #[tactic(auto, using(crate::proofs::Figures::few_edges))]
 fn quote_net(net: Netlist) -> Result<Quoted, Refusal>
-    requires { Sure net × Steppable net }
+    requires { Sure net }
     ensures { QuoteOfNet net result }
 {
     let edges = net.edges as usize;

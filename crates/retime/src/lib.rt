@@ -8,6 +8,7 @@ ghost use Rattle.netlist.specs.Answer.{value, says, holds};
 ghost use Rattle.netlist.specs.Read.{Reads};
 ghost use Rattle.netlist.specs.Write.{joined, text_of, text_in};
 ghost use Rattle.netlist.specs.Circuit.{SoundIn};
+ghost use Rattle.simulate.specs.inner.Ran.{Steppable};
 ghost use Rattle.lags.specs.inner.Lags.{Sure};
 ghost use Rattle.moves.specs.inner.Labels.{lags_of};
 ghost use Rattle.retime.specs.Retime.{LeastLags, lag_table, MovedBy, Room, Retimes};
@@ -29,7 +30,7 @@ struct Retimed {
 
 // A netlist moved by its least labels: 9, 10 or 11, or the moved netlist.
 fn moved_by(least: Move<'_>) -> Result<Retimed, Refusal>
-    requires sure { Sure least.net.now × SoundIn least.net.now }
+    requires sure { Steppable least.net.now × Sure least.net.now × SoundIn least.net.now }
     requires least_lags { LeastLags least.net.now (lags_of least.lab.now) }
     ensures { MovesTo least.entry.net.now (lags_of least.entry.lab.now) result }
 {

@@ -8,21 +8,21 @@ pub returns-in_default : goal.returns-in_default
 returns-in_default c = none c.in_default.ensures
 
 pub invariant_of-by : goal.invariant_of-by
-invariant_of-by c = record { steppable = c.requires.1; labelled = c.in-Some.ensures.labelled }
+invariant_of-by c = record { labelled = c.in-Some.ensures.labelled }
 
 pub slice_bounds-moved-end : goal.slice_bounds-moved-end
-slice_bounds-moved-end c = let few = few_edges _ c.requires.0 in sym (length-take-le c.args.net.edges c.new_counts-counts.result (omega arith))
+slice_bounds-moved-end c = let few = few_edges _ c.requires in sym (length-take-le c.args.net.edges c.new_counts-counts.result (omega arith))
 
 pub total-requires : goal.total-requires
 total-requires c =
     let n = c.new_counts-counts in
-    let few = few_edges _ c.requires.0 in
+    let few = few_edges _ c.requires in
     total_small n.result c.args.net.edges (omega arith) few (counts_small _ _ n.result n.ensures c.in-Some.ensures.labelled)
 
 pub returns : goal.returns
 returns c =
     let n = c.new_counts-counts in
     let e = c.args.net.edges in
-    let few = few_edges _ c.requires.0 in
+    let few = few_edges _ c.requires in
     figures _ _ n.result n.ensures c.in-Some.ensures c.chosen-base.result c.chosen-base.ensures
     (c.total.ensures ∙ total_part n.result e (omega arith)) (largest_part n.result e c.largest.result (omega arith) c.largest.ensures.above c.largest.ensures.least)

@@ -5,6 +5,7 @@ use Rattle.netlist.specs.declared.Netlist.{Netlist}
 use Rattle.netlist.specs.Answer.{value}
 use Rattle.netlist.specs.Circuit.{SoundIn, NarrowAt}
 use Rattle.netlist.specs.Net.{graph_of, regs_of}
+use Rattle.simulate.specs.inner.Ran.{Steppable}
 use Rattle.lags.specs.inner.Lags.{Sure}
 use Rattle.theory.specs.Move.{chosen_in}
 use Rattle.theory.specs.Retimer.{TooMany}
@@ -28,9 +29,9 @@ module _ (m : Move) (counts : List ℕ) (rows : length counts ≡ 1024) (counted
   narrow : Wide (take net.edges counts) (length (take net.edges counts)) None → NarrowAt net (lags_of m.lab.now)
   narrow w = wide_none net m.lab.now counts counted (found None w)
 
-  moving : Sure net × SoundIn net → Wide (take net.edges counts) (length (take net.edges counts)) None → Moving net m.lab.now counts
-  moving (sure, sound) w = record {
-    steppable = m.steppable;
+  moving : Steppable net × Sure net × SoundIn net → Wide (take net.edges counts) (length (take net.edges counts)) None → Moving net m.lab.now counts
+  moving (steppable, sure, sound) w = record {
+    steppable = steppable;
     sure = sure;
     sound = sound;
     labelled = m.labelled;

@@ -3,6 +3,7 @@ use Rattle.std.proofs.Common.{arith}
 use Rattle.netlist.specs.Write.{text_of}
 use Rattle.netlist.proofs.Exits.{left_by}
 use Rattle.netlist.proofs.theorems.Sound.{read_is_sound}
+use Rattle.simulate.proofs.Ran.{reads_steppable}
 use Rattle.lags.proofs.Laws.{read_sure}
 use Rattle.retime.proofs.Stages.{by_refused, new_rows, by_done}
 use Rattle.retime.proofs.retime_by.Goals as goal
@@ -11,7 +12,7 @@ pub moved_by-requires-clause-sure : goal.moved_by-requires-clause-sure
 moved_by-requires-clause-sure c =
     let net = c.args.least.net.now in
     let h = c.requires.reads.0 in
-    (read_sure (text_of net) net h, read_is_sound (text_of net) net h)
+    (reads_steppable h, read_sure (text_of net) net h, read_is_sound (text_of net) net h)
 
 pub returns-in_err-new : goal.returns-in_err-new
 returns-in_err-new c =

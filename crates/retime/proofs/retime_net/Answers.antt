@@ -1,6 +1,5 @@
 -- `retime::retime_net` meets its contract: 12, 8, and else what is said of the least lags.
 use Rattle.std.proofs.Common.{◌≡◌, length, arith, rules, inl, inr}
-use Rattle.simulate.proofs.Ran.{reads_steppable}
 use Rattle.lags.proofs.Laws.{read_sure}
 use Rattle.retime.specs.Retime.{Room}
 use Rattle.retime.proofs.Call.{short, none}
@@ -30,7 +29,7 @@ invariant_of-least c =
     let a = c.args in
     let l = rw c.from.ensures at c.in-Some.ensures in
     let rows : length c.in-Some.lab ≡ 512 = search rules in
-    record { steppable = reads_steppable c.requires; labelled = labelled _ a.net c.in-Some.lab c.requires rows l.small l.least }
+    record { labelled = labelled _ a.net c.in-Some.lab c.requires rows l.small l.least }
 
 pub retime_by-requires-clause-reads : goal.retime_by-requires-clause-reads
 retime_by-requires-clause-reads c = let l = rw c.from.ensures at c.in-Some.ensures in (c.requires, l.least)

@@ -17,7 +17,7 @@ evaluation_order-requires-clause-by_index c =
     let task = c.args.task.now in
     let m = task.known in
     λ kind. to_wires c.wires.ensures (λ n e from to. ¬ Loop (column_graph n e kind from to) (at c.bytes_of.result))
-    (moved_no_loop task.of.net.now task.of.lab.now task.counts.now task.of.labelled m.counted task.of.steppable.no_loop c.bytes_of.result (same _ m.count_rows c.bytes_of.ensures) kind)
+    (moved_no_loop task.of.net.now task.of.lab.now task.counts.now task.of.labelled m.counted task.steppable.no_loop c.bytes_of.result (same _ m.count_rows c.bytes_of.ensures) kind)
 
 pub returns : goal.returns
 returns c =

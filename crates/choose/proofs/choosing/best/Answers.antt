@@ -11,4 +11,4 @@ pub top_of-requires : goal.top_of-requires
 top_of-requires c = cut_lags c.args.of.labelled.rows (lags_low c.requires)
 
 pub invariant_of-searched : goal.invariant_of-searched
-invariant_of-searched c = record { known = known c.requires (lags_cut c.args.of.labelled.rows c.top_of.ensures) }
+invariant_of-searched c = record { steppable = c.requires.moving.steppable; known = known c.requires (lags_cut c.args.of.labelled.rows c.top_of.ensures) }

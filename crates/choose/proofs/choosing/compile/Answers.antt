@@ -50,4 +50,4 @@ returns c =
     let d = rw (c.number_cells.ensures.of.0, of.0) at c.put.ensures in
     let to = c.wire.new.to in
     let p = placed c.order_of-order.result task.of.labelled (search rules) c.order_of-order.ensures (rw (of.0, of.1) at c.number_cells.ensures.numbered) in
-    rw c.len.ensures (standing task.of.labelled task.known p w.entering w.operands d.owes d.dues to.first_rows to.operand_rows task.of.steppable to.kind to.kind_rows w.kinds)
+    rw c.len.ensures (standing task.of.labelled task.known p w.entering w.operands d.owes d.dues to.first_rows to.operand_rows task.steppable to.kind to.kind_rows w.kinds)

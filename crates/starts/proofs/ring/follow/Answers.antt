@@ -11,7 +11,7 @@ use Rattle.starts.proofs.ring.follow.Goals as goal
 pub evaluation_order-order-requires-clause-by_index : goal.evaluation_order-order-requires-clause-by_index
 evaluation_order-order-requires-clause-by_index c =
     let net = c.args.from.net.now in
-    λ kind l. c.args.from.steppable.no_loop (loop_kinds net.nodes net.edges kind net.kind net.from net.to (at net.count)
+    λ kind l. c.requires.0.no_loop (loop_kinds net.nodes net.edges kind net.kind net.from net.to (at net.count)
     (of_wires c.wires-wires.ensures (λ n m from to. Loop (column_graph n m kind from to) (at net.count)) l))
 
 pub loop-s-init : goal.loop-s-init
