@@ -1,7 +1,6 @@
 -- Lists that loops fill, one store a turn.
 --   fill_with           from the front: one element further, whatever is said of each
 --   fill_more           so where each is f of its place
---   appended_more       from a place on: one further
 --   filtered_none, filtered_hit, filtered_miss    with the members of another list that have a property: none yet; the next has it, or not
 use Prim.Native.Nat.{ℕ, suc, ◌+◌, ◌≤◌, ◌<◌}
 use native.Mathlib.Omega.{arith}
@@ -33,18 +32,6 @@ fill_more f = fill_with (λ k x. x ≡ f k)
 -- ── From a place on ─────────────────────────────────────────────────────────────────────────
 
 module _ (f : ℕ → ℕ) where
-  pub appended_more : (old new : List ℕ) (lo k start n x : ℕ) → Appended f old new lo k start → lo ≤ k → n + lo ≡ start + k → n < length new → x ≡ f k
-      → Appended f old (set new n x) lo (k + 1) start
-  appended_more old new lo k start n x s l q h e = record {
-    rows = length-set new n x ∙ s.rows;
-    kept = λ j m. get_or-set_other new n j x 0 (let z : ¬ (j ≡ n) = λ y. omega arith in z) ∙ s.kept j m;
-    added = λ i m. go i m (ℕ_discrete (lo + i) k);
-  }
-    where
-      go : (i : ℕ) → lo + i < k + 1 → Dec (lo + i ≡ k) → at (set new n x) (start + i) ≡ f (lo + i)
-      go i m (yes y) =
-          ap (at (set new n x)) (let z : start + i ≡ n = omega arith in z) ∙ get_or-set_same new n x 0 h ∙ e ∙ ap f (sym y)
-      go i m (no y) = get_or-set_other new n (start + i) x 0 (let z : ¬ (start + i ≡ n) = λ w. omega arith in z) ∙ s.added i (omega arith)
 
 -- ── With the members that have a property ───────────────────────────────────────────────────
 

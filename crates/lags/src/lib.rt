@@ -32,7 +32,8 @@ pub struct Ground {
 }
 
 // Found once for all periods. What is required, `Sure`, is true of every netlist that reads (proofs/Laws, `read_sure`).
-// Kept: `Sure` is a clause and no ghost field, as `Ready` in src/query.rt: it has a walk for each gate in it.
+// Kept: `Sure` is a clause and no ghost field, as `Ready` in src/query.rt: it has a walk for each gate in it. A ghost field's fact has one proof at
+// most; cut to that, no law could take the walks out of it again.
 #[tactic(auto, using(crate::proofs::Wires::reads))]
 pub fn ground_of(net: Netlist) -> Ground
     requires { Sure net }

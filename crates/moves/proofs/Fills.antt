@@ -20,7 +20,3 @@ module _ (f rest : ℕ → ℕ) (xs : List ℕ) where
     rows = fill_more f xs e x h q w.rows;
     past = λ j l. get_or-set_other xs e j x 0 (let z : ¬ (j ≡ e) = λ y. omega arith in z) ∙ w.past j (omega arith);
   }
-
-pub filled_zeros : (f : ℕ → ℕ) (n : ℕ) → Filled f none 0 (replicate n 0)
-unfolding zeros
-filled_zeros f n = filled_none f none (replicate n 0) (zeros_at n)
