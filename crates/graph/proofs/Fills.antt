@@ -2,17 +2,17 @@
 --   fill_with           from the front: one element further, whatever is said of each
 --   fill_more           so where each is f of its place
 --   filtered_none, filtered_hit, filtered_miss    with the members of another list that have a property: none yet; the next has it, or not
-use Prim.Native.Nat.{ℕ, suc, ◌+◌, ◌≤◌, ◌<◌}
+use Prim.Native.Nat.{ℕ, suc, ◌+◌, ◌<◌}
 use native.Mathlib.Omega.{arith}
 use native.Mathlib.Numerals.{add-one}
 use native.Mathlib.Decide.{ℕ_discrete}
 use mathlib.Core.Path.{◌≡◌, sym, subst, ap, ◌∙◌}
 use mathlib.Core.List.{List}
-use lib.ListN.{length, set, length-set}
+use lib.ListN.{length, set}
 use lib.Seq.{get_or-set_same, get_or-set_other}
 use Rattle.graph.specs.Columns.{at}
 use Rattle.graph.specs.inner.Sort.{Stands}
-use Rattle.graph.specs.inner.Lists.{Appended, FilteredAt, Filtered}
+use Rattle.graph.specs.inner.Lists.{FilteredAt, Filtered}
 use Rattle.graph.proofs.Sets.{set_stands}
 
 -- ── From the front ──────────────────────────────────────────────────────────────────────────
@@ -28,10 +28,6 @@ fill_with P xs v t h p w k l = go (ℕ_discrete k v)
 pub fill_more : (f : ℕ → ℕ) (xs : List ℕ) (v t : ℕ) → v < length xs → t ≡ f v → ((k : ℕ) → k < v → at xs k ≡ f k)
     → (k : ℕ) → k < v + 1 → at (set xs v t) k ≡ f k
 fill_more f = fill_with (λ k x. x ≡ f k)
-
--- ── From a place on ─────────────────────────────────────────────────────────────────────────
-
-module _ (f : ℕ → ℕ) where
 
 -- ── With the members that have a property ───────────────────────────────────────────────────
 

@@ -3,13 +3,11 @@ use Prim.Native.Nat.{ℕ, ◌+◌, ◌<◌}
 use native.Mathlib.Omega.{arith}
 use mathlib.Core.Path.{◌≡◌, ◌∙◌}
 use mathlib.Core.List.{List}
-use lib.ListN.{length, set, replicate}
+use lib.ListN.{length, set}
 use lib.Seq.{get_or-set_other}
 use Rattle.graph.specs.Columns.{at}
 use Rattle.graph.proofs.Fills.{fill_more}
-use Rattle.netlist.specs.Net.{zeros}
-use Rattle.netlist.proofs.Rows.{zeros_at}
-use Rattle.moves.specs.inner.Columns.{Filled, none}
+use Rattle.moves.specs.inner.Columns.{Filled}
 
 module _ (f rest : ℕ → ℕ) (xs : List ℕ) where
   pub filled_none : ((e : ℕ) → at xs e ≡ rest e) → Filled f rest 0 xs

@@ -5,14 +5,12 @@
 --   words_short         the words of a choice have no bit past the chosen values
 use Prim.Native.Nat.{ℕ, zero, suc, ◌+◌, ◌*◌, ◌^◌, ◌-◌, ◌<◌, ◌≤◌}
 use native.Mathlib.Omega.{arith}
-use native.Mathlib.Nat.{lt_of_lt_of_le}
 use native.Mathlib.Decide.{ℕ_discrete}
 use native.Mathlib.Numerals.{add-one}
 use mathlib.Core.Path.{◌≡◌, sym, subst, ap, ◌∙◌}
 use mathlib.Core.List.{List}
 use lib.IntN.{ℤ}
 use lib.ListN.{length}
-use lib.Pow.{pow_mono}
 use Rattle.theory.specs.Gate.{gate}
 use Rattle.theory.specs.Move.{sum}
 use Rattle.theory.proofs.moves.Best.{choice_bit}

@@ -9,7 +9,7 @@ use mathlib.Core.List.{List}
 use native.Mathlib.Omega.{arith}
 use native.Mathlib.Numerals.{add-one}
 use lib.Seq.{drop-cons}
-use lib.ListN.{length, get_or, drop, drop_of_length-le}
+use lib.ListN.{length, get_or, drop}
 use Rattle.std.specs.Prelude.{None, Some}
 use Rattle.frame.specs.Frame.{Line, bad, line, frame_at, number_at}
 use Rattle.frame.specs.inner.Decoded.{decoded, framed}
@@ -19,7 +19,7 @@ use Rattle.netlist.specs.declared.Netlist.{Netlist}
 use Rattle.netlist.specs.Answer.{at_line}
 use Rattle.netlist.specs.Net.{with_head, with_node, with_edge, graph_of}
 use Rattle.rules.specs.Rules.{head_fits, node_fits, edge_fits}
-use Rattle.netlist.specs.Read.{first_line, fault, lines, nothing_more, edges_from, nodes_from, lines_of}
+use Rattle.netlist.specs.Read.{first_line, fault, nothing_more, edges_from, nodes_from, lines_of}
 use Rattle.netlist.proofs.Fields.{line_size, Read, head_fields, edge_fields}
 use Rattle.netlist.proofs.Numbers.{pair_at, quad_at, number_one, number_two, number_four}
 

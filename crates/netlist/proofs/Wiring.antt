@@ -1,6 +1,5 @@
 -- What is said of a record's wires is said of its columns, and the other way round.
 --   of_wires, to_wires  of the numbers of nodes and edges, and of the two columns of ends
-use mathlib.Core.Path.{◌≡◌, sym}
 use mathlib.Core.List.{List}
 use Prim.Native.Nat.{ℕ}
 use Rattle.graph.specs.declared.wires.Wires.{Wires}

@@ -29,7 +29,6 @@ module _ (net : Netlist) where
 
   module _ {low high : ℕ} {lab : List ℕ} (h : Halving net low high lab) where
     module _ {middle : ℕ} (above : low < middle) (below : middle < high) where
-
       pub halving_missed : NoneMeetsIn net middle → Halving net middle high lab
       halving_missed n = record {
         apart = below;

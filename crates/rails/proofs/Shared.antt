@@ -26,7 +26,6 @@ use Rattle.rails.proofs.Sums.{sum_ones, sum_all, sum_past}
 -- ── Further ─────────────────────────────────────────────────────────────────────────────────
 
 module _ {f : ℕ → ℕ} {w : ℕ} {g : ℕ → ℕ} {x m : ℕ} where
-
   pub far_more : {n : ℕ} → Far f w g x m n → n < w → n < x → agreed f g (n + 1) ≡ true → Far f w g x m (n + 1)
   far_more {n} s h k e = record {
     low = omega (arith, s.low);

@@ -16,7 +16,6 @@ use Rattle.netlist.specs.Read.{Reads}
 use Rattle.netlist.specs.Write.{joined, text_of, text_in}
 use Rattle.netlist.proofs.Run.{fit_rows}
 use Rattle.netlist.proofs.Written.{text_put}
-use Rattle.netlist.proofs.theorems.Sound.{reads_text}
 use Rattle.lags.proofs.Laws.{read_sure}
 use Rattle.moves.specs.inner.Labels.{lags_of, Labelled}
 use Rattle.moves.specs.Moved.{moved_net}

@@ -31,6 +31,8 @@ impl<'a> Program<'a> {
 }
 
 // The columns of a program, with room for so many cells and operands.
+// Kept: columns of fixed length without how many count, no heap: `Items` holds u16 and grows at its end, while choose and solve's `renumber` put a cell at its place; `program`
+// cuts the kinds to the cells.
 #[derive(Drop)]
 pub struct Columns<const CELLS: usize, const FIRSTS: usize, const OPERANDS: usize> {
     pub kind: [u8; CELLS],

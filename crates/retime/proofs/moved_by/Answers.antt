@@ -1,5 +1,5 @@
 -- `retime::moved_by` meets its contract: 9, 10, 11, or the moved netlist.
-use Rattle.std.proofs.Common.{◌≡◌, ℕ, ◌≤◌, ◌<◌, Option, Some, None, List, length, take, arith, rules, refl, sym, ap, subst, length-take-le}
+use Rattle.std.proofs.Common.{◌≡◌, ℕ, Option, Some, None, List, length, take, arith, rules, refl, sym, ap, subst, length-take-le}
 use Rattle.graph.specs.Columns.{at}
 use Rattle.netlist.specs.declared.Netlist.{Netlist}
 use Rattle.netlist.specs.Answer.{value}

@@ -1,5 +1,5 @@
 -- `retime::put_both` meets its contract: the lags put are those of the nodes, cut out of a longer column of labels.
-use Rattle.std.proofs.Common.{◌≡◌, [], ◌∷◌, ◌++◌, ℕ, ◌≤◌, ◌<◌, List, length, take, drop, sym, ap, ap₂, ◌∙◌, length-take-le}
+use Rattle.std.proofs.Common.{[], ◌∷◌, ◌++◌, take, drop, sym, ap, ap₂, ◌∙◌, length-take-le}
 use Rattle.std.proofs.lemmas.List.{get_or-take}
 use Rattle.netlist.specs.Write.{joined}
 use Rattle.netlist.proofs.Rows.{rows_length}

@@ -12,7 +12,7 @@ use Rattle.netlist.specs.declared.Netlist.{Netlist}
 use Rattle.netlist.specs.Order.{here, past}
 use Rattle.netlist.specs.Net.{graph_of}
 use Rattle.netlist.specs.Circuit.{LoopIn}
-use Rattle.netlist.specs.Read.{FanInFits, InReach, FanInsFit, AllInReach}
+use Rattle.netlist.specs.Read.{FanInFits, InReach}
 use Rattle.netlist.specs.Theorems.{Fit}
 use Rattle.netlist.specs.inner.Wiring.{WiresOf}
 use Rattle.netlist.proofs.Run.{fit_wired}

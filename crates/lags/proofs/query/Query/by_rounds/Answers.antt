@@ -1,6 +1,6 @@
 -- `lags::query::Query::by_rounds` meets its contract. The four ways to end are laws of Search.
 use Rattle.std.proofs.Common.{refl}
-use Rattle.lags.proofs.Search.{search_start, search_few, search_low, search_next, search_found, search_pin, search_rounds}
+use Rattle.lags.proofs.Search.{search_start, search_low, search_next, search_found, search_pin, search_rounds}
 use Rattle.lags.proofs.query.Query.by_rounds.Goals as goal
 
 pub loop-round-init : goal.loop-round-init
