@@ -66,6 +66,7 @@ fn signal_of(source: u16, count: u8, e: u16) -> u16
 }
 
 // The signals of the edges, in the order in which these stand in `ins`.
+// Kept, here and in `gates_of`: the columns stand whole beside the netlist, as in graph `Wires`.
 fn signals_of(circuit: Circuit<'_>, ins: &[u16]) -> [u16; EDGES]
     requires { (circuit.net.now.edges ≤ length ins.now) × ((k : ℕ) → k < circuit.net.now.edges → at ins.now k < circuit.net.now.edges) }
     ensures { (k : ℕ) → k < circuit.entry.net.now.edges → at result k ≡ signal circuit.entry.net.now (at ins.now k) }
