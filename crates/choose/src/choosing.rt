@@ -18,8 +18,8 @@ use search::{CELLS, Columns, FIRSTS, OPERANDS};
 use solve::solve;
 
 // The program of the moved netlist, over as many bits as are chosen, and what is due of its cells. How many cells there are.
-// Kept: columns are lent to be filled, and not handed out, which copies them: tried with the 57 KB of `Numbering` alone, "search 24 values, conflict on the
-// first 4" takes 5 µs more of 32, past its bar. And columns of fixed length with the number of cells beside them, no heap: `Items` holds u16 and grows at its end, while
+// Kept: columns and rows are lent to be filled: handed out together with the number of cells they would be a struct of three, which `searched` takes apart at once. (Handing
+// out copies, too: tried with the 57 KB of `Numbering` alone, 5 µs more of 32.) And columns of fixed length with the number of cells beside them, no heap: `Items` holds u16 and grows at its end, while
 // a kind is a byte, and an operand is put at its place; `program` cuts the kinds to the cells.
 fn compile(task: &Task<'_>, to: &mut Columns<CELLS, FIRSTS, OPERANDS>, rows: &mut Rows) -> usize
     requires { (rows.old.due ≡ []) × (rows.old.begin ≡ 0 ∷ []) }

@@ -35,7 +35,7 @@ fn has_room(room: usize, n: usize) -> bool
 // Each byte's value as a hex digit, 0-9 A-F. It is made once for many lines, so that a digit is looked up.
 // Kept: `NO_DIGIT` in place of None: the table has what specs/Frame `digit_of` gives each byte, 16 for one that is no digit, so one equation says it; and a table in place of
 // a match on the byte. Both were tried. With a table of Options the largest text takes 8 in 100
-// longer to read and a small one 2 in 100, with a match 55 and 5 in 100; retiming small texts, which reads them, is over its bar (1.5 of Rust) as it is.
+// longer to read and a small one 2 in 100, with a match 55 and 5 in 100.
 #[derive(Clone, Copy)]
 pub struct DigitTable {
     values: [u8; 256],

@@ -25,7 +25,7 @@ pub use wires::Wires;
 
 // How many nodes and edges a netlist has at most: the lengths of all columns.
 // Kept, in all crates: an index, a bound or a number to reckon with is widened by `as usize`. `usize::from` is no plainer, and its result is a number of its own to the laws
-// of `at net.from e`; where no law names it, it is `usize::from`.
+// of `at net.from e`; where the proof goes through with it, some places have `usize::from`.
 pub const NODES: usize = 512;
 
 pub const EDGES: usize = 1024;

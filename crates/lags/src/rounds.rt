@@ -21,7 +21,7 @@ impl<'a> Query<'a> {
     }
 
     // Every late node's label goes up by one.
-    // Kept, here and where labels are asked for: that they are low, `Low`, is a clause. They are an array that the rounds raise in place and `Leasts` gives as it is, and the
+    // Kept, here, in `registers_under`, `order_under` and `arrivals`: that labels are low, `Low`, is a clause. They are an array that the rounds raise in place and `Leasts` gives as it is, and the
     // fact needs the netlist beside them: a struct of both would be taken apart at the end.
     fn raise(&self, time: &[u32; NODES], lab: &mut [u32; NODES])
         requires { Low self.now.net.now.nodes lab.old }

@@ -8,6 +8,7 @@ pub use bits::put_bit;
 pub use counts::{Move, bytes_of, chosen_on, too_wide};
 
 // "9 (lowest edge): a new count above 32."
+// Kept: this limit is of a new count; the 32 of rules `edge_fits` is of a line.
 pub const MOST_REGISTERS: u32 = 32;
 
 // "10: more than 24 chosen values."

@@ -59,7 +59,7 @@ fn read_nodes(table: &DigitTable, text: &[u8], headed: Filled) -> Result<Filled,
     ensures { Goes result (nodes_from headed.net.nodes 0 (line_of_node headed.net 0) (drop headed.at text.now) headed.net) (λ f. edges_from f.net.edges 0 (line_of_edge f.net 0) (drop f.at text.now) f.net) }
 {
     let mut net = headed.net;
-    // Kept: a cursor: specs/Read goes line by line, and the lines may come to be of several lengths.
+    // Kept: a cursor: specs/Read goes line by line, and no offset is computed in closed form (docs/DECISIONS.md: how code takes a line).
     let mut at = headed.at;
     for v in 0..net.nodes as usize {
         let line = (FIRST_LINE + v) as u16;

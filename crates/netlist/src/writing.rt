@@ -13,7 +13,7 @@ use frame::put_line;
 use graph::{EDGES, NODES};
 
 // The bytes of the head line.
-// Kept: four numbers and not the record: that the derate fits a byte is known of a parameter; of a field of a lent record it was not proved.
+// Kept: four numbers and not the record: that the derate fits a byte is known of a parameter; of a field of a lent record: tried, and not proved.
 fn head_bytes(period: u16, derate: u8, nodes: u16, edges: u16) -> [u8; 8]
     ensures { result ≡ (1 ∷ []) ++ bytes_of 2 period ++ bytes_of 1 derate ++ bytes_of 2 nodes ++ bytes_of 2 edges }
 {
@@ -36,7 +36,7 @@ fn edge_bytes(net: &Netlist, e: usize) -> [u8; 10]
 }
 
 // The node lines from the cursor `at0`; the cursor past them.
-// Kept: a cursor, as in `read_nodes`: the lines of nodes and of edges may come to be of several lengths.
+// Kept: a cursor, as in `read_nodes`.
 // Kept: tried as one function with `put_edges`, with a closure of type `Fn(usize) -> [u8; N]` for the bytes, but a bound that names a const parameter gets no proof.
 fn put_nodes(net: &Netlist, out: &mut [u8], at0: usize) -> usize
     requires { (net.now.nodes ≤ 512) × (at0 + length (joined (node_line net.now) net.now.nodes) ≤ length out.old) }

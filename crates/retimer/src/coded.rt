@@ -6,6 +6,8 @@ ghost use Rattle.retimer.specs.Code.{code, place};
 use netlist::{Place, Refusal};
 
 // A place's kind and number.
+// Kept, here and below: an answer is one number, as the C interface has no enum; specs/Code gives it by this sum, and its bytes would have to be put one by one for
+// `from_be_bytes`.
 fn place_code(p: Place) -> u64
     ensures value { result ≡ place p }
     ensures upper_bound { result < 262144 }
@@ -14,7 +16,6 @@ fn place_code(p: Place) -> u64
 }
 
 // A refusal's number.
-// Kept: an answer is one number, as the C interface has no enum; specs/Code gives it by this sum, and its bytes would have to be put one by one for `from_be_bytes`.
 pub fn refusal_code(reason: Refusal) -> u64
     ensures { result ≡ code (refusal reason) }
 {

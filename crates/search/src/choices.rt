@@ -35,6 +35,7 @@ pub struct Cells<'a> {
 
 impl<'a> Cells<'a> {
     // The gate of cell i.
+    // Kept: beside gates `GateList::gate`: that type lists the gates that are evaluated, and a search evaluates a range.
     fn gate(self, i: usize) -> Gate<'a>
         requires { i < length self.program.kind.now }
         ensures truth { result.truth ≡ at self.entry.truth.now i }
@@ -75,7 +76,7 @@ pub fn two_to(k: u32) -> u32
 
 // The cells from `start` up to `end`, in turn. The larger of the two.
 // Kept: two lines beside the two of `gates::evaluate`, which goes through a list of gates and this one through a range; over any iterator the two laws (`evaluated`,
-// `EvaluatedTo`) would be of what it yields, no plainer.
+// `EvaluatedTo`) would be of what it yields, no plainer. And places, no slice: what the cells from `start` on see stands before it.
 fn evaluate(cells: &Cells<'_>, start: usize, end: usize, sig: &mut [u8]) -> usize
     requires { CanEvaluate cells.now.program.bits (columns_of cells.now.program) start end sig.old }
     ensures { EvaluatedTo cells.now.program.bits (columns_of cells.now.program) start end sig.old sig.new result }

@@ -8,7 +8,8 @@ ghost use Rattle.search.specs.inner.Program.{program_of, operands_of, RightProgr
 // A program: of each cell the kind of its gate, and where its operands begin; all operands; how many bits are chosen.
 #[derive(Clone, Copy)]
 pub struct Program<'a> {
-    // Kept: bytes, copied from the record's column; as `Kind`s each would be made of its byte twice, as choose and solve order the column before `truths` reads it.
+    // Kept: bytes, as the record's column has them: `truths` reads both and makes a `Kind` of each once; a column of `Kind`s would first have to be made of the record for
+    // simulate and starts.
     pub kind: &'a [u8],
     // One place more than there are cells: where the operands of the last one end.
     pub first: &'a [u16],

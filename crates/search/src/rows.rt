@@ -21,6 +21,7 @@ pub fn put_levels(levels: &[u16], level: &mut [u8])
 }
 
 // Those of some dues that ask cells of level m.
+// Kept: D is bounded where a size is named (`search_within`, `DueRows::new`), and here, where the items are lent without the rows; `DueRows` holds it as a fact.
 fn push_dues<const D: usize>(due: &[u16], level: &[u8], m: u8, row: &mut Items<D>)
     requires asks { (x : ℕ) → x < length due.now → at due.now x / 2 < length level.now }
     requires room { (length row.old + length (of_level level.now m due.now) ≤ D) × (D ≤ 24576) }

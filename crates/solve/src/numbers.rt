@@ -122,6 +122,7 @@ impl<'a, 'b, const CELLS: usize> Numbers<'a, 'b, CELLS> {
     }
 
     // All cells, level by level. Where each level begins.
+    // Kept: the levels stand whole, as in search `Extent`.
     pub fn number_levels(&mut self, due: &[u16]) -> [u16; LEVELS]
         requires none { (self.old.level ≡ 0) × (self.old.code ≡ []) }
         requires spans { Spans self.old.program.bits self.old.program.first.now self.old.program.operand.now self.old.span.now (length self.old.program.kind.now) }

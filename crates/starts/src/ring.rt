@@ -38,7 +38,7 @@ fn clocks_asked(lab: &[u32]) -> usize
 }
 
 // The ring after so many clocks, which are all that are asked for.
-// Kept, here, below and in src/wiring.rt: that the netlist can be stepped is a clause and no fact of `Move`: its counts, and a quote, are made of less, and a type may not
+// Kept, here, below, in src/wiring.rt and in retime `moved_by`: that the netlist can be stepped is a clause and no fact of `Move`: its counts, and a quote, are made of less, and a type may not
 // ask more of those who make one than was asked before.
 fn follow(from: Move<'_>, clocks: usize) -> [u8; SLOTS]
     requires { Steppable from.net.now × (clocks ≤ 16384) × ((v : ℕ) → v < from.net.now.nodes → 16384 ≤ clocks + at from.lab.now v) }

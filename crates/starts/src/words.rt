@@ -66,7 +66,8 @@ impl Filling {
 
 // "Moved by lags and a choice, a netlist keeps its head, its nodes and the ends of its edges, and each edge gets its new count and new start values."
 // The choice comes as words: of each edge its chosen values, bit t for clock t.
-// Kept: `Moving` is a clause and no ghost field, as it holds `Sure`, which has a walk for each gate in it; so the counts stand beside the move, here and in `of`.
+// Kept: `Moving` is a clause and no ghost field, as it holds `Sure`, which has a walk for each gate in it; so the counts stand beside the move, here and in `of`;
+// the counts and words stand whole, as columns do in graph `Wires`.
 pub fn moved(from: Move<'_>, counts: &[u32], words: &[u32]) -> Netlist
     requires { Moving from.net.now from.lab.now counts.now × ShortWords from.net.now (lags_of from.lab.now) words.now }
     ensures { (c : ℕ) → EdgeWords from.entry.net.now (lags_of from.entry.lab.now) c words.now
