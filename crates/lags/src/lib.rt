@@ -21,9 +21,9 @@ use order::order_by;
 use query::Query;
 use times::working_delays;
 
-// Kept: the order, the delays, and the times found of them are whole columns, as labels are (src/climb.rt): no heap, and the netlist says how many nodes it has.
 // What the search goes by and no period plays a part in: the nodes in an order that can be evaluated, the edges by the node that they enter,
 // and the working delays.
+// Kept: the order, the delays, and the times found of them are whole columns, as labels are (src/climb.rt): no heap, and the netlist says how many nodes it has.
 #[derive(Clone, Copy)]
 pub struct Ground {
     pub order: [u16; NODES],
