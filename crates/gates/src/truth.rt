@@ -4,7 +4,7 @@
 ghost use Rattle.std.specs.Prelude.{◌≡◌, ℕ, suc, ◌+◌, ◌-◌, ◌<◌, ◌≤◌, length};
 ghost use Rattle.theory.specs.Gate.{gate_by};
 ghost use Rattle.graph.specs.Columns.{at};
-ghost use Rattle.rules.specs.Kinds.{number_of};
+ghost use Rattle.rules.specs.Kinds.{kind_number};
 ghost use Rattle.gates.specs.inner.Gates.{Reckons};
 
 use graph::column;
@@ -14,7 +14,7 @@ use rules::Kind;
 // Kept, here and in the two below: a kind and a number of inputs, from two columns; a struct of both would be filled for each gate and taken apart at once.
 fn gate_by(kind: Kind, n: u32, k: u32) -> u32
     requires { k ≤ n }
-    ensures { result ≡ gate_by (number_of kind) n k }
+    ensures { result ≡ gate_by (kind_number kind) n k }
 {
     // 1 where any input is 1, and where all are.
     let any = k.min(1);
@@ -33,8 +33,8 @@ fn gate_by(kind: Kind, n: u32, k: u32) -> u32
 
 // The truth word of a gate with n inputs whose number of ones decides: bit k is the value when k of them are 1.
 fn counted(kind: Kind, n: u32) -> u16
-    requires { (¬ (number_of kind ≡ 10)) × (n ≤ 8) }
-    ensures { Reckons (number_of kind) n result }
+    requires { (¬ (kind_number kind ≡ 10)) × (n ≤ 8) }
+    ensures { Reckons (kind_number kind) n result }
 {
     let mut word = 0;
     for k in 0..n + 1 {
@@ -48,8 +48,8 @@ const SELECTOR: u16 = 16384 + 172;
 
 // The truth word of a gate with n inputs.
 fn truth_of(kind: Kind, n: u32) -> u16
-    requires { (n ≤ 8) × (number_of kind ≡ 10 → n ≡ 3) }
-    ensures { Reckons (number_of kind) n result }
+    requires { (n ≤ 8) × (kind_number kind ≡ 10 → n ≡ 3) }
+    ensures { Reckons (kind_number kind) n result }
 {
     match kind {
         Kind::Selector => SELECTOR,

@@ -1,6 +1,6 @@
 // Gate kinds, and what each allows.
 ghost use Rattle.std.specs.Prelude.{◌≡◌};
-ghost use Rattle.rules.specs.Kinds.{number_of, Decodes};
+ghost use Rattle.rules.specs.Kinds.{kind_number, Decodes};
 ghost use Rattle.rules.specs.Rules.{rule_of};
 
 use crate::Rule;
@@ -51,7 +51,7 @@ impl TryFrom<u8> for Kind {
 
 // Kept, in all crates: of a kind that stands in the code the number is `Kind::Output as u8`, a constant; `From` is for a kind that is handed in.
 impl From<Kind> for u8 {
-    ghost from_gives = { λ kind number. number ≡ number_of kind };
+    ghost from_gives = { λ kind number. number ≡ kind_number kind };
 
     fn from(kind: Kind) -> u8 {
         kind as u8
@@ -114,7 +114,7 @@ impl Kind {
     // The in-edges and delays that the kind allows.
     #[tactic(auto, unfolding(crate::specs::Rules::rule_of))]
     pub fn rule(self) -> Rule
-        ensures { result ≡ rule_of (number_of self) }
+        ensures { result ≡ rule_of (kind_number self) }
     {
         RULES[self as usize]
     }

@@ -1,7 +1,7 @@
 // Rule 13, and how many inputs and outputs there are.
 // Private to the crate: `run` and `step` come here with a netlist that passed the rules, which has an input.
 ghost use Rattle.std.specs.Prelude.{◌≡◌, ◌∷◌, [], ◌<◌, ◌≤◌, ◌%◌, eqb, length};
-ghost use Rattle.rules.specs.Kinds.{number_of};
+ghost use Rattle.rules.specs.Kinds.{kind_number};
 ghost use Rattle.rules.specs.Rules.{every};
 ghost use Rattle.simulate.specs.Clock.{earlier};
 ghost use Rattle.simulate.specs.Step.{only_bits, words_fit, step_fits};
@@ -12,7 +12,7 @@ use rules::{Kind, bits_fit};
 // How many nodes have this gate kind.
 // Kept: its number is compared, as in src/plan.rt.
 pub fn count_kind(circuit: Circuit<'_>, kind: Kind) -> usize
-    ensures { result ≡ earlier circuit.entry.net.now (number_of kind) circuit.entry.net.now.nodes }
+    ensures { result ≡ earlier circuit.entry.net.now (kind_number kind) circuit.entry.net.now.nodes }
 {
     let number = u8::from(kind);
     let kinds = circuit.net.kind.iter().take(usize::from(circuit.net.nodes));

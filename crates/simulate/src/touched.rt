@@ -1,5 +1,5 @@
 // What a clock touches, listed once per run.
-ghost use Rattle.rules.specs.Kinds.{number_of};
+ghost use Rattle.rules.specs.Kinds.{kind_number};
 ghost use Rattle.simulate.specs.inner.Lists.{marked, Listed, Touched};
 
 use crate::circuit::Circuit;
@@ -10,7 +10,7 @@ use rules::Kind;
 // The nodes of this gate kind.
 // Kept: its number is compared, as in src/plan.rt.
 fn list_kind(circuit: Circuit<'_>, kind: Kind) -> Items<NODES>
-    ensures { Listed circuit.entry.net.now.kind (number_of kind) circuit.entry.net.now.nodes result }
+    ensures { Listed circuit.entry.net.now.kind (kind_number kind) circuit.entry.net.now.nodes result }
 {
     let number = u8::from(kind);
     let net = circuit.net;

@@ -6,7 +6,7 @@ use borrow.Author.Tests.{le-ltb}
 use Rattle.rules.specs.declared.kind.Kind.{Kind}
 use Rattle.rules.specs.declared.kind.Kind.TheVariants.{Selector}
 use Rattle.rules.specs.declared.kind.UnknownKind.{UnknownKind}
-use Rattle.rules.specs.Kinds.{number_of, Decodes}
+use Rattle.rules.specs.Kinds.{kind_number, Decodes}
 use Rattle.rules.specs.Rules.{rule_of}
 use Rattle.rules.proofs.fan_fits.Goals as goal
 
@@ -14,7 +14,7 @@ past : (k : ℕ) → 10 < k → rule_of 10 ≡ rule_of k
 unfolding rule_of
 past k h = rw (le-ltb k 1 (omega arith), le-ltb k 4 (omega arith), le-ltb k 10 (omega arith), le-ltb k 2 (omega arith))
 
-known : (n : ℕ) (r : Result Kind UnknownKind) → Decodes n r → rule_of (number_of (result_unwrap_or r Selector)) ≡ rule_of n
+known : (n : ℕ) (r : Result Kind UnknownKind) → Decodes n r → rule_of (kind_number (result_unwrap_or r Selector)) ≡ rule_of n
 known n (Ok k) h = ap rule_of h
 known n (Err e) h = past n h.1
 

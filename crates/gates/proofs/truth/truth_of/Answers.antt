@@ -2,7 +2,7 @@
 use Rattle.std.proofs.Common.{refl, sym, ap}
 use mathlib.Core.Path.{subst₂}
 use lib.Count.{ones, ones_in}
-use Rattle.rules.specs.Kinds.{number_of}
+use Rattle.rules.specs.Kinds.{kind_number}
 use Rattle.gates.specs.inner.Gates.{word_from, picked, Reckons}
 use Rattle.gates.proofs.Reckons.{selector_works}
 use Rattle.gates.proofs.truth.truth_of.Goals as goal
@@ -12,4 +12,4 @@ pub returns-in-Selector : goal.returns-in-Selector
 unfolding word_from picked ones ones_in
 returns-in-Selector c =
     let e = c.in-Selector.is in
-    subst₂ (λ kind n. Reckons (number_of kind) n _) (sym e) (sym (c.requires.1 (ap number_of e))) (selector_works _ refl refl)
+    subst₂ (λ kind n. Reckons (kind_number kind) n _) (sym e) (sym (c.requires.1 (ap kind_number e))) (selector_works _ refl refl)
