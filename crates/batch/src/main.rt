@@ -12,18 +12,19 @@
 //         0 or 1 for each node; or the line of the refusal (1 to 4: the walk goes over a netlist that 5, 6 or 7 is said of too)
 //
 // All ends with the input, at a line that is no such frame, or after 65,536 jobs. A text or vectors that the input cuts short are taken as they stand.
+// Kept: the kit's `io`, over C's `read` and `write`, with buffers in frames, and no std::io: a read that fails is the end of the input, a write that fails ends no job, and no
+// memory is asked for.
 #![tactic(auto)]
 
-use std::io;
-use std::io::{Read, Write};
+// File descriptors.
+const STDIN: i32 = 0;
+
+const STDOUT: i32 = 1;
 
 // A frame's line: seven bytes as digits, and the line feed.
-const LINE: u16 = 15;
+const LINE: usize = 15;
 
 const MOST_JOBS: u32 = 65536;
-
-// As long as any text, and as all that is printed of one at a time.
-const ROOM: usize = 65536;
 
 // The longest table to count into.
 const MOST_WORDS: usize = 1024;
@@ -77,73 +78,77 @@ fn job_of(line: &[u8]) -> Option<Job> {
     None
 }
 
-// So many bytes of the input, or as many as are left.
-fn taken<R: Input + AllocGlobal>(rt: &R, most: u16) -> io::Result<Vec<u8>> {
-    let mut bytes = Vec::new(rt.alloc());
-    rt.reader().take(u64::from(most)).read_to_end(&mut bytes)?;
-    Ok(bytes)
+// The bytes of the input that fill the buffer, or as many as are left.
+fn taken(buffer: &mut [u8]) -> &[u8] {
+    let n = io::read_full(STDIN, buffer);
+    &buffer[..n]
 }
 
 // Prints what `put` puts at the front of a buffer, of which it says how many bytes that is.
-fn print<R: Print + AllocGlobal, F: Fn(&mut [u8]) -> usize>(rt: &R, put: F) -> io::Result<()>
+fn print<F: Fn(&mut [u8]) -> usize>(put: F)
     requires { F.IsAlwaysCallable put }
 {
-    let mut out = vec![in rt.alloc(); 0; ROOM]?;
+    let mut out = io::large_buffer();
     let len = put(&mut out).min(out.len());
-    io::writer(rt).write_all(&out[..len])
+    io::write_all(STDOUT, &out[..len]);
 }
 
 // Prints which nodes are marked, before the first pass and after each up to one that marks nothing.
-fn print_walk<R: Print + AllocGlobal>(rt: &R, text: &[u8]) -> io::Result<()> {
+fn print_walk(text: &[u8]) {
     for passes in 0..WALKS {
         let walked = match netlist::walk(text, passes) {
             Ok(walked) => walked,
-            Err(reason) => return print(rt, |out| printing::put_refusal(reason, out)),
+            Err(reason) => {
+                print(|out| printing::put_refusal(reason, out));
+                return;
+            }
         };
         let layer = walked.layer;
         let bits = layer.marks.map(u8::from);
         let marked = &bits[..walked.nodes.min(bits.len())];
-        print(rt, |out| printing::put_bits(marked, out))?;
+        print(|out| printing::put_bits(marked, out));
         if layer.hi <= layer.lo {
-            break;
+            return;
         }
     }
-    Ok(())
+}
+
+// What is printed of a text and vectors, run into so much room or counted into a table of as many words.
+fn print_task(task: Task, text: &[u8], vectors: &[u8], room: usize) {
+    match task {
+        Task::Reread => print(|out| printing::reread(text, out)),
+        Task::List => {
+            let listing = printing::listing(text);
+            io::write_all(STDOUT, &listing.bytes[..listing.len]);
+        }
+        Task::Run => print(|out| {
+            let mut ran = io::large_buffer();
+            printing::put_run(text, vectors, &mut ran[..room.min(ran.len())], out)
+        }),
+        Task::Quote => print(|out| printing::put_quote(text, out)),
+        Task::Rails => print(|out| {
+            let mut table = [0; MOST_WORDS];
+            printing::put_rails(text, &mut table[..room.min(MOST_WORDS)], out)
+        }),
+        Task::Walk => print_walk(text),
+    }
 }
 
 // Takes a job's text and vectors from the input, and prints what it comes to.
-fn print_job<R: Print + Input + AllocGlobal>(rt: &R, job: Job) -> io::Result<()> {
-    let text = taken(rt, job.text)?;
-    let text = &text[..];
-    let vectors = taken(rt, job.vectors)?;
-    let vectors = &vectors[..];
-    match job.task {
-        Task::Reread => print(rt, |out| printing::reread(text, out)),
-        Task::List => {
-            let listing = printing::listing(text);
-            io::writer(rt).write_all(&listing.bytes[..listing.len])
-        }
-        Task::Run => print(rt, |out| {
-            let mut ran = [0; ROOM];
-            printing::put_run(text, vectors, &mut ran[..usize::from(job.room)], out)
-        }),
-        Task::Quote => print(rt, |out| printing::put_quote(text, out)),
-        Task::Rails => print(rt, |out| {
-            let mut table = [0; MOST_WORDS];
-            let words = usize::from(job.room).min(MOST_WORDS);
-            printing::put_rails(text, &mut table[..words], out)
-        }),
-        Task::Walk => print_walk(rt, text),
-    }
+fn print_job(job: Job) {
+    let mut text = io::large_buffer();
+    let text = taken(&mut text[..usize::from(job.text)]);
+    let mut vectors = io::large_buffer();
+    let vectors = taken(&mut vectors[..usize::from(job.vectors)]);
+    print_task(job.task, text, vectors, usize::from(job.room));
 }
 
-fn main(rt: HostRuntime) -> io::Result<()> {
+fn main() {
     for _ in 0..MOST_JOBS {
-        let line = taken(&rt, LINE)?;
-        let Some(job) = job_of(&line) else {
+        let mut line = [0; LINE];
+        let Some(job) = job_of(taken(&mut line)) else {
             break;
         };
-        print_job(&rt, job)?;
+        print_job(job);
     }
-    Ok(())
 }
