@@ -5,13 +5,13 @@ use mathlib.Core.List.{List, [], ◌∷◌, ◌++◌, append-nil}
 use Prim.Native.Nat.{ℕ, zero, suc, ◌+◌, ◌-◌, ◌*◌, ◌≤◌, ◌<◌}
 use native.Mathlib.Omega.{arith}
 use native.Mathlib.Numerals.{add-one}
-use lib.ListN.{length, get_or, take, drop, set, replicate, length-replicate, drop_of_length-le}
+use lib.ListN.{length, get_or, take, drop, set, replicate, length-replicate}
 use lib.Seq.{sets, sets-eq, drop-cons, take-suc, length-take-le}
-use borrow.Author.Tests.{eq-eqb, ne_eqb}
+use borrow.Author.Tests.{eq-eqb, ne_eqb, le-leb, lt-leb}
 use Rattle.std.specs.Prelude.{Option, None, Some}
 use Rattle.frame.specs.Frame.{Line, bad, line, with_byte, line_at, of_kind, frame_at, hex_of, line_of, placed}
-use Rattle.frame.specs.inner.Decoded.{byte_of, decoded}
-use Rattle.frame.proofs.Laws.{line_more, line_none, line_rest, length_hex, length_line}
+use Rattle.frame.specs.inner.Decoded.{byte_of, decoded, filled_up, framed_within}
+use Rattle.frame.proofs.Laws.{line_more, line_none, line_rest, frame_rest, length_hex, length_line}
 use Rattle.theory.proofs.numbers.Stores.{sets_sets}
 use Rattle.frame.proofs.Buffers.{placed_room, placed_full}
 
@@ -32,15 +32,41 @@ fill_byte : (bytes : List ℕ) (i b : ℕ) (l : Line) → fill bytes i (with_byt
 fill_byte bytes i b bad = refl
 fill_byte bytes i b (line cs rest) = refl
 
+drop_zeros : (k m : ℕ) → k ≤ m → drop {A = ℕ} k (replicate m 0) ≡ replicate (m - k) 0
+drop_zeros zero m h = let e : m - 0 ≡ m = omega arith in rw e
+drop_zeros (suc k) zero h = absurd (omega arith)
+drop_zeros (suc k) (suc m) h = let e : suc m - suc k ≡ m - k = omega arith in rw e (drop_zeros k m (omega arith))
+
 -- Before the first turn.
-pub fill_zeros : (n : ℕ) (l : List ℕ) → fill (replicate n 0) 0 (line_at n l) ≡ decoded (line_at n l)
-fill_zeros n l = go (line_at n l) refl
+pub fill_zeros : (m n : ℕ) (l : List ℕ) → n ≤ m → fill (replicate m 0) 0 (line_at n l) ≡ filled_up m (line_at n l)
+fill_zeros m n l h = go (line_at n l) refl
   where
-    go : (m : Line) → line_at n l ≡ m → fill (replicate n 0) 0 m ≡ decoded m
+    go : (x : Line) → line_at n l ≡ x → fill (replicate m 0) 0 x ≡ filled_up m x
     go bad e = refl
     go (line bs rest) e =
         let s = (line_rest n l bs rest e).0 in
-        ap Some (sets-eq bs (replicate n 0) 0 (rw length-replicate (omega arith)) ∙ rw (drop_of_length-le {A = ℕ} (replicate n 0) {i = 0 + length bs} (rw length-replicate (omega arith))) (append-nil bs))
+        let f : 0 + length bs ≡ length bs = omega arith in
+        ap Some (sets-eq bs (replicate m 0) 0 (rw length-replicate (omega arith)) ∙ rw (f, drop_zeros (length bs) m (omega arith)))
+
+-- Where just the line's bytes have room nothing stands behind them.
+pub filled_exact : (k n : ℕ) (l : List ℕ) → filled_up n (frame_at k n l) ≡ decoded (frame_at k n l)
+filled_exact k n l = go (frame_at k n l) refl
+  where
+    go : (x : Line) → frame_at k n l ≡ x → filled_up n x ≡ decoded x
+    go bad e = refl
+    go (line bs rest) e =
+        let f : n - length bs ≡ 0 = omega (arith, (frame_rest k n l bs rest e).0) in
+        ap Some (rw f (append-nil bs))
+
+-- A line for an array of m: there is none for more bytes than it has room for.
+module _ (m k n : ℕ) (l : List ℕ) where
+  pub framed_room : n ≤ m → framed_within m k n l ≡ filled_up m (frame_at k n l)
+  unfolding framed_within
+  framed_room h = rw (le-leb n m h)
+
+  pub framed_over : m < n → framed_within m k n l ≡ None
+  unfolding framed_within
+  framed_over h = rw (lt-leb n m h)
 
 -- A turn: two digits more, at place j.
 module _ (s : List ℕ) (j n i : ℕ) (h : j + 1 < length s) (m : i < n) where

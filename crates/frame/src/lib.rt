@@ -4,8 +4,8 @@
 
 ghost use Rattle.std.specs.Prelude.{◌≡◌, ◌∷◌, [], ◌+◌, ◌*◌, ◌<◌, ◌≤◌, leb, length, drop};
 ghost use Rattle.std.proofs.lemmas.List.Edits.{sets};
-ghost use Rattle.frame.specs.Frame.{line_at, char_of, hex_of, line_of, placed};
-ghost use Rattle.frame.specs.inner.Decoded.{Digits, byte_of, decoded, framed};
+ghost use Rattle.frame.specs.Frame.{line_at, frame_at, char_of, hex_of, line_of, placed};
+ghost use Rattle.frame.specs.inner.Decoded.{Digits, byte_of, filled_up, framed, framed_within};
 
 // The byte that ends a line.
 const LINE_FEED: u8 = b'\n';
@@ -66,42 +66,74 @@ impl DigitTable {
         }
     }
 
-    // The line of N bytes at `at`, where there is room for one.
-    fn bytes_at<const N: usize>(&self, text: &[u8], at: usize) -> Option<[u8; N]>
-        requires { at + (2 * N + 1) ≤ length text.now }
-        ensures { result ≡ decoded (line_at N (drop at text.now)) }
+    // The line of `n` bytes at `at`, where there is room for one.
+    fn bytes_at<const M: usize>(&self, text: &[u8], at: usize, n: usize) -> Option<[u8; M]>
+        requires { (n ≤ M) × (at + (2 * n + 1) ≤ length text.now) }
+        ensures { result ≡ filled_up M (line_at n (drop at text.now)) }
     {
-        let mut bytes = [0u8; N];
-        for i in 0..N {
+        let mut bytes = [0u8; M];
+        for i in 0..n {
             bytes[i] = self.byte(text[at + 2 * i], text[at + 2 * i + 1])?;
         }
-        if text[at + 2 * N] != LINE_FEED {
+        if text[at + 2 * n] != LINE_FEED {
             return None;
         }
         Some(bytes)
     }
 
-    // The line of kind `kind` with N more bytes at `at`: those N.
-    pub fn line<const N: usize>(&self, text: &[u8], at: usize, kind: u8) -> Option<[u8; N]>
-        ensures { result ≡ framed kind N (drop at text.now) }
+    // The line of kind `kind` with `n` more bytes at `at`: those, with zeros behind them up to M.
+    fn line_within<const M: usize>(
+        &self,
+        text: &[u8],
+        at: usize,
+        kind: u8,
+        n: usize,
+    ) -> Option<[u8; M]>
+        requires { n ≤ M }
+        ensures { result ≡ filled_up M (frame_at kind n (drop at text.now)) }
     {
         let left = text.len().saturating_sub(at);
-        if !has_room(left.saturating_sub(2), N) {
+        if !has_room(left.saturating_sub(2), n) {
             return None;
         }
         let b = self.byte(text[at], text[at + 1])?;
         if b != kind {
             return None;
         }
-        self.bytes_at(text, at + 2)
+        self.bytes_at(text, at + 2, n)
+    }
+
+    // The line of kind `kind` with N more bytes at `at`: those N.
+    pub fn line<const N: usize>(&self, text: &[u8], at: usize, kind: u8) -> Option<[u8; N]>
+        ensures { result ≡ framed kind N (drop at text.now) }
+    {
+        self.line_within(text, at, kind, N)
+    }
+
+    // The same where the number of bytes is known only to the caller's run, none above 16: those bytes, and zeros behind them.
+    #[tactic(auto, using(crate::proofs::Steps::framed_room, crate::proofs::Steps::framed_over))]
+    pub fn frame(&self, text: &[u8], at: usize, kind: u8, n: usize) -> Option<[u8; 16]>
+        ensures { result ≡ framed_within 16 kind n (drop at text.now) }
+    {
+        if 16 < n {
+            return None;
+        }
+        self.line_within(text, at, kind, n)
     }
 }
 
-// The same of one line, by a table of its own.
+// A line by a table of its own.
 pub fn line_at<const N: usize>(text: &[u8], at: usize, kind: u8) -> Option<[u8; N]>
     ensures { result ≡ framed kind N (drop at text.now) }
 {
     DigitTable::new().line(text, at, kind)
+}
+
+// The same of a number of bytes that is known only to the caller's run.
+pub fn frame_at(text: &[u8], at: usize, kind: u8, n: usize) -> Option<[u8; 16]>
+    ensures { result ≡ framed_within 16 kind n (drop at text.now) }
+{
+    DigitTable::new().frame(text, at, kind, n)
 }
 
 // A byte's two digits at `at`, where there is room.

@@ -3,7 +3,9 @@
 --   byte_of a b         the byte of the digits a and b; none where one of them is no digit
 --   decoded l           the bytes of the line l
 --   framed k n l        the bytes of the line of kind k with n more bytes at the front of l: those n
-use Rattle.std.specs.Prelude.{◌≡◌, false, cond, List, ℕ, ◌+◌, ◌*◌, ◌<◌, ltb, length, get_or, Option, None, Some}
+--   filled_up m l       the bytes of the line l with zeros behind them, up to m
+--   framed_within m k n l    `framed k n l` with zeros behind, up to m; none where n is above m
+use Rattle.std.specs.Prelude.{◌≡◌, false, cond, List, ◌++◌, ℕ, ◌+◌, ◌-◌, ◌*◌, ◌<◌, ltb, leb, length, get_or, replicate, Option, None, Some}
 use Rattle.frame.specs.Frame.{digit_of, Line, bad, line, frame_at}
 
 pub record Digits (table : List ℕ) : Type 0 where
@@ -19,3 +21,10 @@ decoded (line bs rest) = Some bs
 
 abbrev pub framed : ℕ → ℕ → List ℕ → Option (List ℕ)
 framed k n l = decoded (frame_at k n l)
+
+abbrev pub filled_up : ℕ → Line → Option (List ℕ)
+filled_up m bad = None
+filled_up m (line bs rest) = Some (bs ++ replicate (m - length bs) 0)
+
+unfoldable pub framed_within : ℕ → ℕ → ℕ → List ℕ → Option (List ℕ)
+framed_within m k n l = cond (leb n m) (filled_up m (frame_at k n l)) None
