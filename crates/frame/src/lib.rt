@@ -38,7 +38,7 @@ fn has_room(room: usize, n: usize) -> bool
 // longer to read and a small one 2 in 100, with a match 55 and 5 in 100.
 #[derive(Clone, Copy)]
 pub struct DigitTable {
-    values: [u8; 256],
+    pub values: [u8; 256],
     ghost digits: { Digits values },
 }
 
