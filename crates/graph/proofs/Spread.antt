@@ -68,8 +68,8 @@ pub queued_stands : {nodes v : ℕ} {l : Layer} → Queued nodes l → v < nodes
 queued_stands {v = v} s h e = s.listed.stands v h e
 
 module _ {nodes v : ℕ} {l : Layer} (h : v < nodes) (s : Queued nodes l) where
-  pub mark_room : flag l.marks v ≡ false → l.hi < 512
-  mark_room z = omega (arith, listed_room nodes l.hi l.queue l.marks s.listed v h z, s.nodes_fit)
+  pub mark_room : flag l.marks v ≡ false → l.hi < nodes
+  mark_room = listed_room nodes l.hi l.queue l.marks s.listed v h
 
   spread_new : flag l.marks v ≡ false → Spread nodes (λ u. u ≡ v) l (record l { hi = l.hi + 1; queue = set l.queue l.hi v; marks = set l.marks v true })
   spread_new z = record {
@@ -77,7 +77,7 @@ module _ {nodes v : ℕ} {l : Layer} (h : v < nodes) (s : Queued nodes l) where
       nodes_fit = s.nodes_fit;
       queue_rows = length-set l.queue l.hi v ∙ s.queue_rows;
       mark_rows = length-set l.marks v true ∙ s.mark_rows;
-      listed = listed_more nodes l.hi l.queue l.marks s.listed v h z (omega (arith, mark_room z, s.queue_rows)) inside;
+      listed = listed_more nodes l.hi l.queue l.marks s.listed v h z (omega (arith, mark_room z, s.queue_rows, s.nodes_fit)) inside;
     };
     passes = refl;
     begins = refl;

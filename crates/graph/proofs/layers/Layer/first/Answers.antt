@@ -13,7 +13,9 @@ loop-v-init c =
     spread_none (record { nodes_fit = n; queue_rows = refl; mark_rows = refl; listed = listed_none _ _ _ (none_marked 512 n) }) (pins_none c.args.kind.now c.args.pin)
 
 pub mark-requires : goal.mark-requires
-mark-requires c = (omega (arith, c.args.wires.laid.nodes_fit), mark_room c.loop-v-test.true c.loop-v.invariant.queued)
+mark-requires c =
+    let fit = c.args.wires.laid.nodes_fit in
+    (omega (arith, fit), λ e. omega (arith, mark_room c.loop-v-test.true c.loop-v.invariant.queued e, fit))
 
 pub loop-v-preserved : goal.loop-v-preserved
 loop-v-preserved c =

@@ -7,7 +7,7 @@ pub mark-requires : goal.mark-requires
 mark-requires c =
     let w = c.args.wires in
     let inside = w.laid.to_in _ (c.requires.1 c.loop-e.e-index 0 c.loop-e-test.true) in
-    (omega (arith, inside, w.laid.nodes_fit), mark_room inside c.loop-e.invariant.queued)
+    (omega (arith, inside, w.laid.nodes_fit), λ e. omega (arith, mark_room inside c.loop-e.invariant.queued e, w.laid.nodes_fit))
 
 pub loop-e-preserved : goal.loop-e-preserved
 loop-e-preserved c =
