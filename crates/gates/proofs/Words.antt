@@ -4,10 +4,12 @@
 --   word_more, word_wider    how large the gathered word is: with one bit more, at the end
 --   word_below          so large at most
 --   seed_narrow         the seed of a truth word that has nothing below its seed
+--   seen_few            no gate sees more than 8 signals
 --   ones_few            a sum of bits is no more than how many there are
 --   ones_from           it has the ones of the seed and one for each bit that is 1
 use Prim.Native.Nat.{ℕ, zero, suc, ◌+◌, ◌-◌, ◌*◌, ◌^◌, ◌/◌, ◌<◌, ◌≤◌}
 use native.Mathlib.Omega.{arith}
+use native.Mathlib.Decide.{dec_lt}
 use native.Mathlib.Nat.{pow-suc, mul_assoc, mul_comm, mul-le-mul_left, mul-le-mul_right}
 use mathlib.Core.Path.{◌≡◌, refl, subst}
 use mathlib.Core.List.{List, [], ◌∷◌, map}
@@ -53,6 +55,13 @@ word_below w (x ∷ l) b =
 -- `gather` is asked with the seed alone, as a truth word that has nothing below it.
 pub seed_narrow : (seed n : ℕ) → Narrow (seed * 512) n → suc seed * 2 ^ n ≤ 264
 seed_narrow seed n h = subst (λ d. suc d * 2 ^ n ≤ 264) (let z : seed * 512 / 512 ≡ seed = omega arith in z) h
+
+pub seen_few : (seed n : ℕ) → Narrow (seed * 512) n → n ≤ 8
+seen_few seed n h = go (dec_lt 8 n)
+  where
+    go : Dec (8 < n) → n ≤ 8
+    go (no z) = omega arith
+    go (yes l) = absurd (let w : 2 ^ 9 ≤ 2 ^ n = pow_mono {i = 9} {j = n} l in omega (arith, seed_narrow seed n h, mul-le-mul_left (suc seed) w))
 
 ones_bit : (x : ℕ) → x ≤ 1 → ones x ≡ x
 unfolding ones lib.Count.ones_in

@@ -6,11 +6,11 @@ ghost use Rattle.gates.specs.inner.Gates.{picked, Table};
 // The seed of a truth word stands in bits 9 and up: 0 or 32, behind which at most 8 or 3 inputs are gathered.
 const WORDS: usize = 264;
 
-// For each gathered word, which bit of a truth word it asks for.
+// For each gathered word, which bit of a truth word it asks for: `new` finds them, and a caller that has them gives its own.
 #[derive(Clone, Copy)]
 pub struct IndexTable {
-    places: [u8; WORDS],
-    ghost table: { Table places },
+    pub places: [u8; WORDS],
+    pub ghost table: { Table places },
 }
 
 // Which bit of a truth word a gathered word asks for: the number of its ones; behind the seed 32 the three inputs themselves.
