@@ -2,8 +2,7 @@
 // Private to the crate: `search_within` makes the plan that it asks for.
 //
 // Signals: what each operand shows, the chosen bit x at x and the value of cell i at 32 + i.
-ghost use Rattle.std.specs.Prelude.{◌≡◌, ℕ, ◌↔◌, ◌+◌, ◌-◌, ◌^◌, ◌≤◌, ◌<◌, true, length, ◌==◌};
-ghost use Rattle.std.specs.List.{suffix_len};
+ghost use Rattle.std.specs.Prelude.{◌≡◌, ℕ, ◌↔◌, ◌+◌, ◌-◌, ◌^◌, ◌≤◌, ◌<◌, true, length};
 ghost use Rattle.theory.specs.Move.{Prefers};
 ghost use Rattle.graph.specs.Columns.{at};
 ghost use Rattle.search.specs.inner.Program.{operands_of, asked, Fillable, SolvesLists};
@@ -96,14 +95,6 @@ fn next_after(choice: u32, b: u32) -> u32
     ((choice >> b) + 1) << b
 }
 
-// How many 1s stand next to the end.
-fn ones_at_end(bits: &[u8]) -> usize
-    ensures ones { result ≡ suffix_len (λ b. b == 1) bits.now }
-    ensures few { result ≤ length bits.now }
-{
-    bits.iter().rev().take_while(|bit| **bit == 1).count()
-}
-
 // The bits of the first choice after this one that differs in one of the first m: those from place m on turn to 0, and so do the 1s next before them;
 // the 0 before these turns to 1. The place after that one; 0 where there is none.
 // Kept: 0 and no None: it is how many of the first bits stand up to the one that turned, and `jump` looks up the levels by it, 0 as any other.
@@ -112,12 +103,14 @@ fn advance(k: usize, m: usize, sig: &mut [u8]) -> usize
     requires { (m ≤ k) × (k ≤ length sig.old) }
     ensures { Advanced k m sig.old sig.new result }
 {
-    let x = m - ones_at_end(&sig[..m]);
-    sig[x..k].fill(0);
-    if 0 < x {
-        sig[x - 1] = 1;
+    for x in (0..k).rev() {
+        if x < m && sig[x] != 1 {
+            sig[x] = 1;
+            return x + 1;
+        }
+        sig[x] = 0;
     }
-    x
+    0
 }
 
 // On to the first choice of k bits that differs in one of the first m, and there to the first cell and the first due that depend on a changed bit.

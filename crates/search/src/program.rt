@@ -1,6 +1,6 @@
 // What is searched: a program in columns, what is due of its cells, and what fills the list.
 // Required: what `Program` and `Problem` state in their types, those who make them have to know.
-ghost use Rattle.std.specs.Prelude.{◌≡◌, suc, ◌<◌, length, take};
+ghost use Rattle.std.specs.Prelude.{◌≡◌, suc, ◌<◌, length, take, replicate};
 ghost use Rattle.graph.specs.Columns.{at};
 ghost use Rattle.gates.specs.inner.Gates.{part};
 ghost use Rattle.search.specs.inner.Program.{program_of, operands_of, RightProgram, rows_of, total_of, Owes, Fillable};
@@ -50,7 +50,9 @@ impl<const CELLS: usize, const FIRSTS: usize, const OPERANDS: usize> Columns<
     OPERANDS,
 > {
     // All 0.
-    pub fn new() -> Self {
+    pub fn new() -> Self
+        ensures { (result.kind ≡ replicate CELLS 0) × (result.first ≡ replicate FIRSTS 0) × (result.operand ≡ replicate OPERANDS 0) }
+    {
         Columns {
             kind: [0; CELLS],
             first: [0; FIRSTS],

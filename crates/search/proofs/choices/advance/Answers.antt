@@ -1,14 +1,22 @@
 -- `search::choices::advance` meets its contract: from place x on the bits are 0, and below they are as they were.
-use Rattle.std.proofs.Common.{arith}
-use Rattle.search.proofs.Next.{cleared, advanced_one, advanced_none}
+use Rattle.std.proofs.Common.{◌≡◌, ◌+◌, ◌-◌, arith, inl, inr}
+use Rattle.search.proofs.Next.{advancing_turn, advanced_one, advanced_none}
 use Rattle.search.proofs.choices.advance.Goals as goal
+use Rattle.search.proofs.choices.advance.Goals.{else-x-m-via-then-x-m+else-sig-x-ne1, else-x-m-via-else-x-m}
 
-pub returns-then-x-gt0 : goal.returns-then-x-gt0
-returns-then-x-gt0 c =
-    let r = c.requires in
-    advanced_one (cleared c.args.m c.ones_at_end.result c.args.sig.now (omega arith) c.ones_at_end.ensures.ones r.0 r.1 (c.fill.ensures.after (λ y e. e))) r.1 c.if-x-gt0.true
+pub returns-then-sig-x-ne1 : goal.returns-then-sig-x-ne1
+returns-then-sig-x-ne1 c =
+    let l = c.loop-x in
+    let e : l.x - 1 + 1 ≡ l.x = omega arith in
+    rw e (advanced_one l.invariant c.requires.1 (omega arith) (λ h. c.if-sig-x-ne1.true) (omega arith))
 
-pub returns-else-x-gt0 : goal.returns-else-x-gt0
-returns-else-x-gt0 c =
-    let r = c.requires in
-    advanced_none (cleared c.args.m c.ones_at_end.result c.args.sig.now (omega arith) c.ones_at_end.ensures.ones r.0 r.1 (c.fill.ensures.after (λ y e. e))) r.1 (λ h. omega arith)
+pub loop-x-preserved : goal.loop-x-preserved
+loop-x-preserved c =
+    advancing_turn c.loop-x.invariant c.requires.1 c.loop-x-test.true
+    (elim c.else-x-m.branch [ else-x-m-via-then-x-m+else-sig-x-ne1 w ↦ inr w.if-sig-x-ne1.false | else-x-m-via-else-x-m w ↦ inl (omega arith) ])
+
+pub returns : goal.returns
+returns c =
+    let l = c.loop-x in
+    let e : l.x ≡ 0 = omega arith in
+    rw e at (advanced_none l.invariant c.requires.1 (omega arith) (λ h. omega arith) (λ h. omega arith))
