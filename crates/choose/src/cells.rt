@@ -9,11 +9,11 @@ ghost use Rattle.choose.specs.inner.Sources.{source_at, SourceRows};
 ghost use Rattle.choose.specs.inner.Wires.{Placed, Wires};
 
 use crate::task::Task;
-use crate::{CODES, STRIDE};
+use crate::{CELLS, CODES, FIRSTS, OPERANDS, STRIDE};
 use graph::{EdgesByNode, Items, NODES, evaluation_order};
 use lags::up_of;
 use moves::bytes_of;
-use search::{BITS, CELLS, Columns, FIRSTS, OPERANDS};
+use search::{BITS, Columns};
 
 // A cell by its clock and the edges that enter its node.
 #[derive(Clone, Copy)]

@@ -11,10 +11,11 @@ use crate::cells::{Numbering, order_of};
 use crate::dues::Rows;
 use crate::task::Task;
 use crate::words::Choice;
+use crate::{CELLS, FIRSTS, OPERANDS};
 use graph::EDGES;
 use lags::up_of;
 use moves::Move;
-use search::{CELLS, Columns, FIRSTS, OPERANDS};
+use search::Columns;
 use solve::solve;
 
 // The program of the moved netlist, over as many bits as are chosen, and what is due of its cells. How many cells there are.

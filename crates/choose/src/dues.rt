@@ -9,11 +9,11 @@ ghost use Rattle.choose.specs.inner.Dues.{cell_at, Dues, due_at, Celled, Pushed,
 
 use crate::cells::Numbering;
 use crate::task::Task;
-use crate::{CODES, ROW_ENDS, STRIDE};
+use crate::{CODES, DUES, ROW_ENDS, STRIDE};
 use graph::{Items, edges_along};
 use lags::up_of;
 use moves::MOST_CHOSEN;
-use search::{DUES, Owed};
+use search::Owed;
 
 // A run of clocks, from `low` up to `high`.
 #[derive(Clone, Copy)]

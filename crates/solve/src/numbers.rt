@@ -34,7 +34,7 @@ impl<'a, 'b, const CELLS: usize> Numbers<'a, 'b, CELLS> {
     ghost use Rattle.graph.specs.Columns.{at};
     ghost use Rattle.solve.specs.inner.Numbers.{Missing, Ranked};
     ghost use Rattle.solve.specs.inner.Parts.{Spans};
-    ghost use Rattle.solve.specs.inner.Numbering.{layers, Further};
+    ghost use Rattle.solve.specs.inner.Numbering.{numbered_layers, Further};
 
     // No number yet.
     // Kept: the room is asked for, as at `solve_in`.
@@ -55,7 +55,7 @@ impl<'a, 'b, const CELLS: usize> Numbers<'a, 'b, CELLS> {
     // A cell of the same level that cell i needs and that has no number yet.
     fn missing(&self, i: usize) -> Option<usize>
         requires { i < length self.now.program.kind.now }
-        ensures { Missing (layers self.now) self.now.id i result }
+        ensures { Missing (numbered_layers self.now) self.now.id i result }
     {
         for x in self.program.operands(i) {
             if BITS <= *x {

@@ -1,13 +1,13 @@
 -- The numbers as the code holds them.
---   layers              what is numbered
+--   numbered_layers     what is numbered
 --   Further             the same cells are numbered, and the numbers that were given before have stayed
 use Rattle.std.specs.Prelude.{◌≡◌, ℕ, ◌<◌, ◌≤◌, length}
 use Rattle.graph.specs.Columns.{at}
 use Rattle.solve.specs.inner.Numbers.{Layers, layers_of}
 use Rattle.solve.specs.declared.numbers.Numbers.{Numbers}
 
-abbrev pub layers : {N : ℕ} → Numbers N → Layers
-layers s = layers_of (length s.program.kind.now) s.program.first.now s.program.operand.now s.span.now
+abbrev pub numbered_layers : {N : ℕ} → Numbers N → Layers
+numbered_layers s = layers_of (length s.program.kind.now) s.program.first.now s.program.operand.now s.span.now
 
 pub record Further {N : ℕ} (old new : Numbers N) : Type 0 where
   pub program : new.program ≡ old.program
