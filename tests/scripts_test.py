@@ -2,13 +2,16 @@
 
   explained_all     every number has its sentence, which names the line's content, the node or the edge
   listing_*         exit status, many files, output unchanged
+  reread_cut_off    a read or a write that fails, and a text in one message: no status and no answer of its own
   drawn             pictures of the cards and of a netlist with 60 nodes
   blif_*            BLIF read back runs alike; what cannot be taken is said; ABC judges 200 retimings equivalent
 """
 
 from __future__ import annotations
 
+import os
 import shutil
+import socket
 import subprocess
 import sys
 import tempfile
@@ -21,7 +24,7 @@ sys.path[:0] = [str(ROOT / "tests"), str(ROOT / "tools")]
 import blif
 import explain
 import texts
-from netlists import CARDS, random_netlist
+from netlists import CARDS, largest, random_netlist
 from reference import Edge, Netlist, Node, Refusal, read, run, text_of
 from retiming import listing
 from retiming_cases import random_nets
@@ -120,6 +123,23 @@ def listing_files() -> None:
         assert missing.returncode == 2 and b"No such file" in missing.stderr, missing
 
 
+def reread_cut_off() -> None:
+    """A read that fails is the end of the input, one that fails to write ends nothing, and a text may come as one message."""
+    with tempfile.TemporaryDirectory() as folder, open("/dev/full", "wb") as full:
+        unreadable = os.open(folder, os.O_RDONLY)
+        folder_read = subprocess.run([ROOT / "reread"], stdin=unreadable, capture_output=True, check=False)
+        os.close(unreadable)
+        assert (folder_read.returncode, folder_read.stdout, folder_read.stderr) == (0, b"0F01010001\n", b""), folder_read
+        unwritten = subprocess.run([ROOT / "reread"], input=A, stdout=full, stderr=subprocess.PIPE, check=False)
+        assert (unwritten.returncode, unwritten.stderr) == (0, b""), unwritten
+    long = text_of(largest(Random(SEED)))
+    given, taken = socket.socketpair(socket.AF_UNIX, socket.SOCK_SEQPACKET)
+    with given, taken:
+        given.sendall(long)
+        given.shutdown(socket.SHUT_WR)
+        assert subprocess.run([ROOT / "reread"], stdin=taken, capture_output=True, check=False).stdout == long
+
+
 def drawn() -> str:
     dot = command("draw", "--dot", given=wired([0, 0, 0, 10, 1], [Edge(2, 3), Edge(3, 4), Edge(0, 3, 1), Edge(1, 3)])).stdout.decode()
     for words in ('n2 -> n3 [headlabel="select"', 'nr2 -> n3 [headlabel="0"', 'n1 -> n3 [headlabel="1"', "selector 3"):
@@ -201,7 +221,7 @@ def judged_equal() -> str:
 
 
 def main() -> None:
-    for test in (explained_all, listing_status, listing_files, drawn, blif_back, blif_refused, judged_equal):
+    for test in (explained_all, listing_status, listing_files, reread_cut_off, drawn, blif_back, blif_refused, judged_equal):
         print(f"{test.__name__}: {test() or 'ok'}", flush=True)
 
 
