@@ -74,6 +74,11 @@ impl Place {
 }
 
 impl fmt::Display for Refusal {
+    ghost use Rattle.std.specs.Prelude.{Some};
+    ghost use Rattle.netlist.specs.Sentence.{sentence};
+
+    ghost output = { λ refusal. Some (sentence refusal) };
+
     fn fmt<W: fmt::Write>(&self, f: &mut fmt::Formatter<W>) -> fmt::Result {
         match self {
             Refusal::Line(line) => write!(f, "line {line} is missing, malformed or surplus"),
