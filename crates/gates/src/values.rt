@@ -43,12 +43,12 @@ impl<'a> GateList<'a> {
     }
 }
 
-// A gate sees no more signals: so many are gathered behind the seed 0, and 3 behind the seed 32.
+// The most signals that a gate sees: so many are gathered behind the seed 0, and 3 behind the seed 32.
 const MOST_SEEN: usize = 8;
 
 // The signals that a gate sees in one word behind `seed`, the first one highest.
-// Kept: the loop counts to `MOST_SEEN` and is left at the end of the slice, since so its turns are laid out one after the other. Most gates see two signals or
-// three, and a loop over the slice takes more to begin than its turns do.
+// The loop counts to the most that there can be and is left where the slice ends, so that the compiler lays out its turns one after the other: most gates
+// see one to three signals, for which a loop over the slice takes more to begin than in its turns.
 fn gather(sees: &[u16], seed: usize, sig: &[u8]) -> usize
     requires { InputRows (seed * 512) sees.now sig.now }
     ensures { (result ≡ word_from seed (map (at sig.now) sees.now)) × (result < suc seed * 2 ^ length sees.now) }
