@@ -1,5 +1,5 @@
 -- The signals of a clock are bits throughout, and its parts together make one clock.
-use Rattle.std.proofs.Common.{◌≡◌, ◌+◌, ◌*◌, ◌-◌, ℕ, List, length, take, drop, arith, rules, refl, ap, sym, subst, ◌∙◌, length-take, length-drop, add-one}
+use Rattle.std.proofs.Common.{◌≡◌, ◌+◌, ◌*◌, ℕ, List, length, take, drop, arith, rules, refl, ap, ap₂, sym, subst, ◌∙◌, length-take, length-drop, add-one}
 use native.Mathlib.Nat.{suc-mul, zero-mul}
 use Rattle.graph.specs.Columns.{at}
 use Rattle.gates.specs.inner.Gates.{AllBits}
@@ -24,9 +24,9 @@ counted t = (ap length t.inputs.items, ap length t.outputs.items)
 next : (t i : ℕ) → (t + 1) * i ≡ t * i + i
 next t i = ap (λ k. k * i) (add-one t) ∙ suc-mul t i
 
--- The clock's vector, of i bytes.
-vector_is : (t : ℕ) (vectors : List ℕ) {i n : ℕ} → i ≡ n → take ((t + 1) * i - t * i) (drop (t * i) vectors) ≡ take n (drop (t * i) vectors)
-vector_is t vectors {i} {n} e = ap (λ k. take k (drop (t * i) vectors)) (let z : (t + 1) * i - t * i ≡ n = omega (arith, next t i) in z)
+-- A clock's vector, by its place and its length.
+vector_at : (vectors : List ℕ) {k p m n : ℕ} → p ≡ m → k ≡ n → take k (drop p vectors) ≡ take n (drop m vectors)
+vector_at vectors e q = ap₂ (λ x y. take y (drop x vectors)) e q
 
 pub loop-t-init : goal.loop-t-init
 loop-t-init c =
@@ -43,22 +43,20 @@ entered_by l words sig p q r = q ∙ ap (with_registers l.registers (length l.re
 pub put_inputs-requires : goal.put_inputs-requires
 put_inputs-requires c =
     let many = (counted c.lists_of-lists.ensures).0 in
-    let used = c.loop-t.t * c.len-inputs.result in
     let room = (turn_room _ c.args.circuit.steppable _ _ _ _ c.requires c.loop-t-test.true c.loop-t.invariant).0 in (
       omega (arith, c.loop-t.invariant.sig_size),
-      rw (vector_is c.loop-t.t c.args.vectors.now (c.len-inputs.ensures ∙ many))
-          (omega (arith, many, length-take (inputs c.args.circuit.net.now) (drop used c.args.vectors.now), length-drop used c.args.vectors.now)),
+      simp (length-take, length-drop) (omega (arith, room, many, c.len-inputs.ensures, next c.loop-t.t c.len-inputs.result)),
     )
 
 pub show_registers-requires : goal.show_registers-requires
-show_registers-requires c = (omega (arith, c.loop-t.invariant.words_size), omega (arith, c.loop-t.invariant.sig_size, ap length c.put_inputs.ensures, written_length (at c.lists_of-lists.result.inputs) (at (take ((c.loop-t.t + 1) * c.len-inputs.result - c.loop-t.t * c.len-inputs.result) (drop (c.loop-t.t * c.len-inputs.result) c.args.vectors.now))) (length c.lists_of-lists.result.inputs) c.loop-t.sig))
+show_registers-requires c = (omega (arith, c.loop-t.invariant.words_size), omega (arith, c.loop-t.invariant.sig_size, ap length c.put_inputs.ensures ∙ written_length _ _ _ _))
 
 pub evaluate-requires : goal.evaluate-requires
 evaluate-requires c =
     let rows : Rows c.plan_of-plan.result = record { first = search rules; sees = search rules; truth = search rules } in
     plan_evaluable c.args.circuit.net.now c.plan_of-plan.result c.plan_of-plan.ensures c.args.circuit.steppable rows _ (omega (arith, c.loop-t.invariant.sig_size))
     (begun_bits _ c.args.circuit.steppable _ _ _ _ c.requires c.loop-t-test.true c.loop-t.invariant c.lists_of-lists.result _
-    (entered_by c.lists_of-lists.result c.loop-t.words c.loop-t.sig c.put_inputs.ensures c.show_registers.ensures (vector_is c.loop-t.t c.args.vectors.now (c.len-inputs.ensures ∙ (counted c.lists_of-lists.ensures).0))))
+    (entered_by c.lists_of-lists.result c.loop-t.words c.loop-t.sig c.put_inputs.ensures c.show_registers.ensures (vector_at c.args.vectors.now (omega arith) (omega (arith, c.len-inputs.ensures, (counted c.lists_of-lists.ensures).0, next c.loop-t.t c.len-inputs.result)))))
 
 pub put_outputs-requires : goal.put_outputs-requires
 put_outputs-requires c =
@@ -70,7 +68,7 @@ shift-requires c =
     let p = c.plan_of-plan.result in
     let inv = c.loop-t.invariant in
     let bits = begun_bits _ c.args.circuit.steppable _ _ _ _ c.requires c.loop-t-test.true c.loop-t.invariant c.lists_of-lists.result _
-    (entered_by c.lists_of-lists.result c.loop-t.words c.loop-t.sig c.put_inputs.ensures c.show_registers.ensures (vector_is c.loop-t.t c.args.vectors.now (c.len-inputs.ensures ∙ (counted c.lists_of-lists.ensures).0))) in
+    (entered_by c.lists_of-lists.result c.loop-t.words c.loop-t.sig c.put_inputs.ensures c.show_registers.ensures (vector_at c.args.vectors.now (omega arith) (omega (arith, c.len-inputs.ensures, (counted c.lists_of-lists.ensures).0, next c.loop-t.t c.len-inputs.result)))) in
     let valued = c.evaluate.ensures net.kind (plan_truths net p c.plan_of-plan.ensures c.args.circuit.steppable) in (
       net_movable _ c.lists_of-lists.result c.lists_of-lists.ensures c.args.circuit.steppable c.loop-t.words _ inv.words_size (omega arith) inv.fits,
       subst AllBits (sym valued) (evaluated_bits net.kind p.node p.first p.sees 0 _ (length p.node) bits),
@@ -86,7 +84,7 @@ loop-t-preserved c =
       sig_rows = l.invariant.sig_size;
       words_rows = l.invariant.words_size;
       begun = c.show_registers.new.sig;
-      begins = entered_by c.lists_of-lists.result l.words l.sig c.put_inputs.ensures c.show_registers.ensures (vector_is l.t c.args.vectors.now (c.len-inputs.ensures ∙ n.0));
+      begins = entered_by c.lists_of-lists.result l.words l.sig c.put_inputs.ensures c.show_registers.ensures (vector_at c.args.vectors.now (omega arith) (omega (arith, c.len-inputs.ensures, n.0, next l.t c.len-inputs.result)));
       evaluates = c.evaluate.ensures net.kind (plan_truths net c.plan_of-plan.result c.plan_of-plan.ensures c.args.circuit.steppable);
       puts = c.put_outputs.ensures;
       moves = c.shift.ensures;
