@@ -123,7 +123,8 @@ fn print_task(task: Task, text: &[u8], vectors: &[u8], room: usize) {
         }
         Task::Run => print(|out| {
             let mut ran = io::large_buffer();
-            printing::put_run(text, vectors, &mut ran[..room.min(ran.len())], out)
+            let room = room.min(ran.len());
+            printing::put_run(text, vectors, &mut ran[..room], out)
         }),
         Task::Quote => print(|out| printing::put_quote(text, out)),
         Task::Rails => print(|out| {
