@@ -110,7 +110,7 @@ impl DigitTable {
         self.line_within(text, at, kind, N)
     }
 
-    // The same where the number of bytes is known only to the caller's run, none above 16: those bytes, and zeros behind them.
+    // The same where how many bytes a line has is known at run time alone: those bytes, and zeros behind them. There is none of more than 16.
     #[tactic(auto, using(crate::proofs::Steps::framed_room, crate::proofs::Steps::framed_over))]
     pub fn frame(&self, text: &[u8], at: usize, kind: u8, n: usize) -> Option<[u8; 16]>
         ensures { result ≡ framed_within 16 kind n (drop at text.now) }
@@ -129,7 +129,7 @@ pub fn line_at<const N: usize>(text: &[u8], at: usize, kind: u8) -> Option<[u8; 
     DigitTable::new().line(text, at, kind)
 }
 
-// The same of a number of bytes that is known only to the caller's run.
+// The same where how many bytes the line has is known at run time alone.
 pub fn frame_at(text: &[u8], at: usize, kind: u8, n: usize) -> Option<[u8; 16]>
     ensures { result ≡ framed_within 16 kind n (drop at text.now) }
 {
