@@ -113,9 +113,12 @@ fn print_walk(text: &[u8]) {
     }
 }
 
-// What is printed of a text and vectors, run into so much room or counted into a table of as many words.
-fn print_task(task: Task, text: &[u8], vectors: &[u8], room: usize) {
-    match task {
+// Takes a job's text and vectors from the input, as long as these buffers, and prints what it comes to.
+fn print_taken(job: Job, text: &mut [u8], vectors: &mut [u8]) {
+    let text = taken(text);
+    let vectors = taken(vectors);
+    let room = usize::from(job.room);
+    match job.task {
         Task::Reread => print(|out| printing::reread(text, out)),
         Task::List => {
             let listing = printing::listing(text);
@@ -135,13 +138,13 @@ fn print_task(task: Task, text: &[u8], vectors: &[u8], room: usize) {
     }
 }
 
-// Takes a job's text and vectors from the input, and prints what it comes to.
+// A job, in buffers as long as a frame can ask for.
 fn print_job(job: Job) {
     let mut text = io::large_buffer();
-    let text = taken(&mut text[..usize::from(job.text)]);
     let mut vectors = io::large_buffer();
-    let vectors = taken(&mut vectors[..usize::from(job.vectors)]);
-    print_task(job.task, text, vectors, usize::from(job.room));
+    let text = &mut text[..usize::from(job.text)];
+    let vectors = &mut vectors[..usize::from(job.vectors)];
+    print_taken(job, text, vectors);
 }
 
 fn main() {
