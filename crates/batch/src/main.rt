@@ -138,7 +138,7 @@ fn print_taken(job: Job, text: &mut [u8], vectors: &mut [u8]) {
     }
 }
 
-// A job, in buffers as long as a frame can ask for.
+// A job, in buffers as long as a frame can ask for. They are made here and read into above, since in one function the compiler clears each of them twice.
 fn print_job(job: Job) {
     let mut text = io::large_buffer();
     let mut vectors = io::large_buffer();
