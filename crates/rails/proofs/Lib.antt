@@ -3,6 +3,8 @@
 pub mod Agreed
 -- What the edges below a number share, one edge more; what is paid for.
 pub mod Shared
+-- The edges that leave a node, one after the other.
+pub mod Lower
 -- A netlist that fits has few edges.
 pub mod Few
 -- Sums over edges and nodes, and tables filled.

@@ -1,11 +1,10 @@
 -- What the edges below a number share with an edge: its nearest registers.
---   far_more            one register more that agrees
---   far_ends            it ends at the last register of one, or at the first that differs
+--   far_by              by how many of the nearest agree
 --   shares_by, shares-other, shares_some    an edge from the same node with a register there shares it where both agree; no other edge does
 --   shared_by, shared_some       some edge below n shares it
 --   shared_none, shared_other, shared_further    the nearest that are shared, one edge more
---   paid_few, paid_past, paid_alone    what is paid for: no more than there are; all but the nearest; all, where no lower edge leaves the node
-use Prim.Native.Nat.{ℕ, zero, suc, ◌+◌, ◌-◌, ◌<◌, ◌≤◌}
+--   paid_few, paid_past, paid_none, paid_alone    what is paid for: no more than there are; all but the nearest; none, where all are shared; all, where no lower edge leaves the node
+use Prim.Native.Nat.{ℕ, zero, suc, ◌+◌, ◌-◌, ◌<◌, ◌≤◌, min, max}
 use native.Mathlib.Omega.{arith}
 use native.Mathlib.Numerals.{add-one}
 use native.Mathlib.Decide.{ℕ_discrete, dec_lt}
@@ -19,26 +18,24 @@ use Rattle.theory.specs.Clock.{Regs}
 use Rattle.theory.proofs.numbers.Sums.{sum_same}
 use Rattle.netlist.proofs.Fits.{clash, both}
 use Rattle.rails.specs.Rails.{outward, agreed, shares, shared_below, paid_on}
-use Rattle.rails.specs.inner.Shared.{Far, Further, Shared}
+use Rattle.rails.specs.inner.Shared.{Further, Shared}
 use Rattle.rails.proofs.Agreed.{agreed_each, agreed_by}
 use Rattle.rails.proofs.Sums.{sum_ones, sum_all, sum_past}
 
 -- ── Further ─────────────────────────────────────────────────────────────────────────────────
 
 module _ {f : ℕ → ℕ} {w : ℕ} {g : ℕ → ℕ} {x m : ℕ} where
-  pub far_more : {n : ℕ} → Far f w g x m n → n < w → n < x → agreed f g (n + 1) ≡ true → Far f w g x m (n + 1)
-  far_more {n} s h k e = record {
-    low = omega (arith, s.low);
-    within = omega arith;
-    agree = λ d a b. go d a b (ℕ_discrete d n);
+  -- By how many of the nearest agree, s, of as many as both have, n.
+  pub far_by : (n s : ℕ) {r : ℕ} → n ≡ min w x → m ≤ n → s ≤ n → r ≡ max m s → ((k : ℕ) → k ≤ n → k ≤ s → agreed f g k ≡ true)
+      → ((k : ℕ) → k ≤ n → s < k → agreed f g k ≡ false) → Further f w g x m r
+  far_by n s {r} h few t e within past = record {
+    far = record {
+      low = omega (arith, e);
+      within = omega (arith, e);
+      agree = λ d a b. (omega (arith, e), within (suc d) (omega (arith, e)) (omega (arith, e)));
+    };
+    ends = λ k l. past (suc r) (omega (arith, h)) (omega (arith, e));
   }
-    where
-      go : (d : ℕ) → m ≤ d → d < n + 1 → Dec (d ≡ n) → (d < x) × (agreed f g (suc d) ≡ true)
-      go d a b (yes z) = (omega arith, ap (agreed f g) (let y : suc d ≡ n + 1 = omega arith in y) ∙ e)
-      go d a b (no z) = s.agree d a (omega arith)
-
-  pub far_ends : {n : ℕ} → Far f w g x m n → (n < w → n < x → agreed f g (n + 1) ≡ false) → Further f w g x m n
-  far_ends {n} s e = record { far = s; ends = λ h k. rw (sym (add-one n)) (e h k) }
 
 -- ── One register ────────────────────────────────────────────────────────────────────────────
 
@@ -126,6 +123,13 @@ module _ (G : Graph) (R : Regs) (e : ℕ) where
   paid_past {m} s =
       sum_same (λ d. cond (shared_below G R e d e) 0 1) (λ d. cond (ltb d m) 0 1) (R.count e) (λ d h. ap (λ t. cond t 0 1) (s.each d h))
       ∙ sum_past m (R.count e)
+
+  -- What edges below n share stays shared, so where these are all registers none is paid for.
+  pub paid_none : {n : ℕ} → n ≤ e → Shared G R e n (R.count e) → paid_on G R e ≡ 0
+  paid_none {n} l s = paid_past (record { within = omega arith; each = λ d h. stays d h (shared_some n d (s.each d h ∙ lt-ltb d (R.count e) h)) }) ∙ omega arith
+    where
+      stays : (d : ℕ) → d < R.count e → (i : ℕ) × (i < n) × (shares G R e d i ≡ true) → shared_below G R e d e ≡ ltb d (R.count e)
+      stays d h r = shared_by e d r.0 (omega (arith, r.1)) r.2 ∙ sym (lt-ltb d (R.count e) h)
 
   pub paid_alone : ((i : ℕ) → i < e → ¬ (G.src i ≡ G.src e)) → paid_on G R e ≡ R.count e
   paid_alone alone =

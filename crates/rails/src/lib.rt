@@ -1,9 +1,10 @@
 // Registers on shared rails: what a chip pays for on which branches of one node share registers. The promises are in specs/: Rails, Theorems.
 #![tactic(auto)]
 
-ghost use Rattle.std.specs.Prelude.{◌≡◌, [], ◌∷◌, ◌++◌, ◌-◌, ◌^◌, ◌/◌, ◌<◌, ◌≤◌, length, drop};
+ghost use Rattle.std.specs.Prelude.{◌≡◌, [], ◌∷◌, ◌++◌, ◌-◌, ◌^◌, ◌/◌, ◌<◌, ◌≤◌, length, drop, replicate};
 ghost use Rattle.theory.specs.Move.{digit};
 ghost use Rattle.graph.specs.Columns.{at};
+ghost use Rattle.graph.specs.inner.Sort.{Sorts};
 ghost use Rattle.netlist.specs.Answer.{says};
 ghost use Rattle.netlist.specs.Net.{graph_of, regs_of};
 ghost use Rattle.netlist.specs.Write.{joined};
@@ -11,7 +12,7 @@ ghost use Rattle.netlist.specs.Theorems.{Fit};
 ghost use Rattle.rails.specs.Rails.{paid_on, Rails};
 ghost use Rattle.rails.specs.inner.Shared.{Further, Counted};
 
-use graph::NODES;
+use graph::{EdgesByNode, NODES};
 use netlist::{Netlist, Refusal};
 
 // The n values of a word of w that are nearest to the feeding node, as a number: the nearest is bit w − 1.
@@ -27,14 +28,13 @@ fn further(a: u32, w: u32, b: u32, x: u32, m: u32) -> u32
     requires { (m ≤ w) × (w ≤ 32) × (x ≤ 32) × (a < 2 ^ w) × (b < 2 ^ x) }
     ensures { Further (digit w a) w (digit x b) x m result }
 {
-    // The end of the shorter word, found once: a test for the end of each at every step took a quarter more of a long count.
     let most = w.min(x);
-    for n in m..most {
-        if nearest(a, w, n + 1) != nearest(b, x, n + 1) {
-            return n;
-        }
+    if most <= m {
+        return m;
     }
-    most.max(m)
+    // Not a step at a time: the exclusive or has as many bits as there are values from the first that differs.
+    let differ = 32 - (nearest(a, w, most) ^ nearest(b, x, most)).leading_zeros();
+    m.max(most - differ)
 }
 
 // The total, and each node's count.
@@ -45,11 +45,13 @@ struct Bill {
     rails: [u32; NODES],
 }
 
-// What a chip is made from: a netlist whose lines are right.
+// What a chip is made from: a netlist whose lines are right, and its edges by the node that they leave.
 #[derive(Clone, Copy)]
 struct Chip<'a> {
     net: &'a Netlist,
+    outs: &'a EdgesByNode,
     ghost fit: { Fit net.now },
+    ghost sorted: { Sorts net.now.from net.now.edges net.now.nodes (replicate 1024 0) outs.now.list outs.now.begin },
 }
 
 impl<'a> Chip<'a> {
@@ -64,9 +66,15 @@ impl<'a> Chip<'a> {
         let count = u32::from(net.count[e]);
         let start = net.start[e];
         let mut shared = 0;
-        for i in 0..e {
-            if net.from[i] == from {
-                shared = further(start, count, net.start[i], u32::from(net.count[i]), shared);
+        for &lower in self.outs.of(usize::from(from)) {
+            let i = usize::from(lower);
+            // They stand in rising order: from here on none is lower.
+            if e <= i {
+                break;
+            }
+            shared = further(start, count, net.start[i], u32::from(net.count[i]), shared);
+            if shared == count {
+                return 0;
             }
         }
         count - shared
@@ -98,7 +106,12 @@ pub fn rails(text: &[u8], table: &mut [u32]) -> Result<usize, Refusal>
     if table.len() < nodes {
         return Err(Refusal::Room);
     }
-    let bill = Chip { net: &net }.bill();
+    let outs = net.wires().leaving();
+    let bill = Chip {
+        net: &net,
+        outs: &outs,
+    }
+    .bill();
     table[..nodes].copy_from_slice(&bill.rails[..nodes]);
     Ok(bill.total as usize)
 }

@@ -1,19 +1,28 @@
--- `rails::further` meets its contract: the numbers of the nearest n + 1 are equal exactly where these values agree.
-use Rattle.std.proofs.Common.{◌+◌, arith, sym, ◌∙◌}
-use Rattle.rails.proofs.Agreed.{near_agreed, near_differ}
-use Rattle.rails.proofs.Shared.{far_more, far_ends}
+-- `rails::further` meets its contract: the exclusive or has as many digits as values are left from the first that differs.
+use Rattle.std.proofs.Common.{◌-◌, ◌≤◌, arith}
+use Rattle.rails.proofs.Agreed.{apart, digits, same_few, agreed_within, agreed_past}
+use Rattle.rails.proofs.Shared.{far_by}
 use Rattle.rails.proofs.further.Goals as goal
 
-pub returns-then-nearest : goal.returns-then-nearest
-returns-then-nearest c =
+pub overflow_sub-most : goal.overflow_sub-most
+overflow_sub-most c =
     let a = c.args in
-    far_ends c.loop-n.invariant
-    λ h k. near_differ a.w a.a a.x a.b c.requires.3 c.requires.4 (c.loop-n.n + 1) (omega arith) (omega arith)
-    (λ e. c.if-nearest.true (c.nearest.ensures ∙ e ∙ sym c.nearest-in-loop-n.ensures))
+    let r = c.requires in
+    let n = c.min-most.result in
+    let y : n ≤ a.w = omega (arith, c.min-most.ensures) in
+    let z : n ≤ a.x = omega (arith, c.min-most.ensures) in
+    rw (c.nearest.ensures, c.nearest-2.ensures) (omega (arith, same_few a.w a.a a.x a.b r.3 r.4 n y z (omega (arith, y, r.1))))
 
-pub loop-n-preserved : goal.loop-n-preserved
-loop-n-preserved c =
+pub returns : goal.returns
+returns c =
     let a = c.args in
-    far_more c.loop-n.invariant (omega arith) (omega arith)
-    (near_agreed a.w a.a a.x a.b c.requires.3 c.requires.4 (c.loop-n.n + 1) (omega arith) (omega arith)
-    (sym c.nearest.ensures ∙ c.if-nearest.false ∙ c.nearest-in-loop-n.ensures))
+    let r = c.requires in
+    let n = c.min-most.result in
+    let y : n ≤ a.w = omega (arith, c.min-most.ensures) in
+    let z : n ≤ a.x = omega (arith, c.min-most.ensures) in
+    let few : n ≤ 32 = omega (arith, y, r.1) in
+    let s = n - digits (apart a.w a.a a.x a.b r.3 r.4 n y z few) in
+    let e = rw (c.nearest.ensures, c.nearest-2.ensures) at c.max.ensures in
+    far_by n s (omega (arith, c.min-most.ensures)) (omega arith) (omega arith) (omega (arith, e))
+    (agreed_within a.w a.a a.x a.b r.3 r.4 n y z few)
+    (agreed_past a.w a.a a.x a.b r.3 r.4 n y z few)

@@ -1,7 +1,9 @@
 -- `rails::rails` meets its contract: the text is read, then 12, then each node's count is put.
-use Rattle.std.proofs.Common.{◌≡◌, ◌++◌, length, drop, arith, rules, ap}
+use Rattle.std.proofs.Common.{◌≡◌, ◌++◌, length, drop, replicate, arith, rules, ap}
+use Rattle.graph.specs.inner.Sort.{Sorts}
 use Rattle.netlist.proofs.Exits.{left_by}
 use Rattle.netlist.proofs.Run.{fit_rows}
+use Rattle.netlist.proofs.Wiring.{of_wires}
 use Rattle.rails.proofs.Answered.{reads_fit, rails_stop, rails_short, rails_done}
 use Rattle.rails.proofs.rails.Goals as goal
 
@@ -12,7 +14,13 @@ pub returns-then-table-nodes : goal.returns-then-table-nodes
 returns-then-table-nodes c = rails_short _ _ _ c.in_ok-net.ensures (omega arith)
 
 pub invariant_of-bill : goal.invariant_of-bill
-invariant_of-bill c = record { fit = reads_fit c.in_ok-net.ensures }
+invariant_of-bill c = record {
+  fit = reads_fit c.in_ok-net.ensures;
+  sorted = of_wires c.wires.ensures (λ n m from to. Sorts from m n (replicate 1024 0) c.leaving-outs.result.list c.leaving-outs.result.begin) c.leaving-outs.ensures;
+}
+
+pub wires-requires : goal.wires-requires
+wires-requires c = reads_fit c.in_ok-net.ensures
 
 pub shared_ref_as_front-copy_from_slice : goal.shared_ref_as_front-copy_from_slice
 shared_ref_as_front-copy_from_slice c = omega (arith, (fit_rows _ (reads_fit c.in_ok-net.ensures)).0)

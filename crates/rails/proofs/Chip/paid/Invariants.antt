@@ -1,7 +1,6 @@
--- `rails::Chip::paid` meets its contract: the nearest `shared` registers are those that edges below i share.
-use Rattle.netlist.specs.Net.{graph_of, regs_of}
-use Rattle.rails.specs.inner.Shared.{Shared}
+-- `rails::Chip::paid` meets its contract: what the edges passed share is the nearest `shared` registers.
+use Rattle.rails.proofs.Lower.{Passed}
 use Rattle.rails.proofs.Chip.paid.Given as goal
 
-abbrev pub invariant-loop-i : goal.invariant-loop-i
-invariant-loop-i l = Shared (graph_of l.net) (regs_of l.net) l.e l.i l.shared
+abbrev pub invariant-loop-lower : goal.invariant-loop-lower
+invariant-loop-lower l = Passed l.self.net.now l.e l.lower-index l.shared
